@@ -1,6 +1,7 @@
 -- 01, "Numbers": a number of w bits extended to 64 by a reference. w is 16 for sequence numbers and 32 for timestamps.
 use mathlib.Core.Bool.{cond}
-use Prim.Native.Nat.{ℕ, _+_, _-_, _*_, _/_, _%_, _^_}
+use mathlib.Core.Path.{_≡_}
+use Prim.Native.Nat.{ℕ, _+_, _-_, _*_, _/_, _%_, _^_, _≤_, _<_}
 use lib.Dec.{ltb}
 
 -- the distance of two numbers
@@ -29,3 +30,16 @@ nearer reference stands rival = cond (ltb (apart reference rival) (apart referen
 unfoldable pub guessed : ℕ → ℕ → ℕ → ℕ
 unfolding base below above nearer
 guessed w reference got = nearer reference (nearer reference (base w reference got) (below w reference got)) (above w reference got)
+
+-- What extending a number of w bits amounts to.
+pub record Extends (w : ℕ) : Type 0 where
+  -- the answer's low bits are the number received
+  pub low-bits : (reference got : ℕ) → got < 2 ^ w → guessed w reference got % 2 ^ w ≡ got
+  -- of all 64-bit numbers with those low bits it is a nearest one
+  pub nearest :
+      (reference got n : ℕ) → reference < 2 ^ 64 → got < 2 ^ w → n < 2 ^ 64 → n % 2 ^ w ≡ got → apart reference (guessed w reference got) ≤ apart reference n
+  -- at equal distance it is the base
+  pub base-first :
+      (reference got : ℕ) → apart reference (base w reference got) ≤ apart reference (guessed w reference got) → guessed w reference got ≡ base w reference got
+  -- in cycle 0 the lower rival is never chosen
+  pub cycle-zero : (reference got : ℕ) → reference < 2 ^ w → got < 2 ^ w → guessed w reference got ≡ nearer reference got (got + 2 ^ w)

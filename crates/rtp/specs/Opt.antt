@@ -4,7 +4,6 @@ use Rattle.rtp.specs.declared.opt.Opt.{Opt}
 use Rattle.rtp.specs.declared.opt.Opt.the-variants.{None, Some}
 
 unfoldable pub optMin : Opt → Opt → Opt
-optMin None None = None
-optMin None (Some b) = Some b
+optMin None b = b
 optMin (Some a) None = Some a
 optMin (Some a) (Some b) = Some (min a b)

@@ -3,6 +3,7 @@
 ghost use mathlib.Core.Path.{_≡_};
 ghost use mathlib.Core.Logic.{_⊎_};
 ghost use Prim.Native.Nat.{_+_, _-_, _*_, _/_, _%_, _^_, _≤_, _<_};
+ghost use Rattle.rtp.specs.Numbers as Numbers;
 ghost use Rattle.rtp.specs.Numbers.{apart, guessed};
 
 pub mod opt;
@@ -64,7 +65,18 @@ fn abs_diff(a: u64, b: u64) -> u64
     if a < b { b - a } else { a - b }
 }
 
-// `got`, a number of so many bits, extended by `reference`. The Rust takes the width as the largest number of its bits.
+// The rival, if it is nearer to the reference than the number that stands.
+fn nearer(reference: u64, stands: u64, rival: u64) -> u64
+    ensures { λ r. ⌜ r ≡ Numbers.nearer reference stands rival ⌝ }
+{
+    if abs_diff(reference, rival) < abs_diff(reference, stands) {
+        rival
+    } else {
+        stands
+    }
+}
+
+// `got`, a number of so many bits, extended by `reference`. (The Rust takes the width as the largest number of its bits.)
 fn wrapping_counter_to_u64_counter(reference: u64, got: u64, bits: u32) -> u64
     requires { ⌜ bits ≤ 32 ⌝ }
     requires { ⌜ got < 2 ^ bits ⌝ }
@@ -76,19 +88,5 @@ fn wrapping_counter_to_u64_counter(reference: u64, got: u64, bits: u32) -> u64
     let below = std::num::wrapping_sub_u64(base, cycle);
     let above = std::num::wrapping_add_u64(base, cycle);
 
-    let dist_base = abs_diff(reference, base);
-    let dist_below = abs_diff(reference, below);
-    let dist_above = abs_diff(reference, above);
-
-    if dist_below < dist_base {
-        if dist_below <= dist_above {
-            return below;
-        }
-    }
-    if dist_above < dist_base {
-        if dist_above < dist_below {
-            return above;
-        }
-    }
-    base
+    nearer(reference, nearer(reference, base, below), above)
 }
