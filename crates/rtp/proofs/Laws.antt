@@ -23,8 +23,8 @@ by-order a b {X} far-under under level over far-over =
     (λ h. by-less (a + 1) b (λ k. far-under (omega arith)) (λ k. under (omega arith)))
     (λ h. by-less b a (λ k. by-less (b + 1) a (λ l. far-over (omega arith)) (λ l. over (omega arith))) (λ k. level (omega arith)))
   where
-  by-less : (x y : ℕ) → (x < y → X) → (y ≤ x → X) → X
-  by-less x y f g = by-test (λ (n : ℕ). X) (ltb x y) {x = 0} {y = 0} (λ t. f (ltb-true x y t)) (λ t. g (ltb-false x y t))
+    by-less : (x y : ℕ) → (x < y → X) → (y ≤ x → X) → X
+    by-less x y f g = by-test (λ (n : ℕ). X) (ltb x y) {x = 0} {y = 0} (λ t. f (ltb-true x y t)) (λ t. g (ltb-false x y t))
 
 -- r is less than a cycle from b, and n two cycles or more
 cycles-apart : (r b n c : ℕ) → r < b + c → b < r + c → (n + 2 * c ≤ b) ⊎ (b + 2 * c ≤ n) → apart r b ≤ apart r n
@@ -103,7 +103,7 @@ module _ (w : ℕ) (fits : w ≤ 64) where
       let c : 2 ^ w ≤ 2 ^ 64 = pow-mono fits in
       let near : (m : ℕ) → apart r (guessed w r got) ≤ apart r m → n ≡ m → apart r (guessed w r got) ≤ apart r n = λ m h q. rw q h in
       let far : (n + 2 * 2 ^ w ≤ base w r got) ⊎ (base w r got + 2 * 2 ^ w ≤ n) → apart r (guessed w r got) ≤ apart r n
-            = λ h. le-trans (g .0) (cycles-apart r (base w r got) n (2 ^ w) (omega arith) (omega arith) h) in
+      = λ h. le-trans (g .0) (cycles-apart r (base w r got) n (2 ^ w) (omega arith) (omega arith) h) in
       by-order (n / 2 ^ w) (r / 2 ^ w)
       (λ h. far (inl (omega (arith, mul-le-mul-right (2 ^ w) h))))
       (λ h. near (below w r got) (g .1 .0) (omega (arith, ap (λ (k : ℕ). k * 2 ^ w) h)))

@@ -1,10 +1,9 @@
 // The numbers of RTP, after the Rust's rtp/mod.rs (006): each kind has a type of its own, so that a 16-bit number is never
 // taken for an extended one.
 ghost use mathlib.Core.Path.{_≡_};
-ghost use mathlib.Core.Logic.{_⊎_};
-ghost use Prim.Native.Nat.{_+_, _-_, _*_, _/_, _%_, _^_, _≤_, _<_};
+ghost use Prim.Native.Nat.{ℕ, _+_, _%_, _^_, _≤_, _<_};
 ghost use Rattle.rtp.specs.Numbers as Numbers;
-ghost use Rattle.rtp.specs.Numbers.{apart, guessed};
+ghost use Rattle.rtp.specs.Numbers.{apart, guessed, Extends, RowsHold};
 
 pub mod opt;
 
@@ -90,3 +89,13 @@ fn wrapping_counter_to_u64_counter(reference: u64, got: u64, bits: u32) -> u64
 
     nearer(reference, nearer(reference, base, below), above)
 }
+
+// Nothing is computed: what it ensures is the law of `guess_extended`, over the width.
+fn extends()
+    ensures { λ r. ⌜ ((w : ℕ) → w ≤ 62 → Extends w) ⌝ }
+{}
+
+// 01's examples on numbers.
+fn rows()
+    ensures { λ r. ⌜ RowsHold ⌝ }
+{}

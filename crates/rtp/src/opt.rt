@@ -16,13 +16,7 @@ pub fn opt_min(a: Opt, b: Opt) -> Opt
         Opt::None => b,
         Opt::Some(x) => match b {
             Opt::None => a,
-            Opt::Some(y) => {
-                if x <= y {
-                    a
-                } else {
-                    b
-                }
-            }
+            Opt::Some(y) => { if x <= y { a } else { b } }
         },
     }
 }

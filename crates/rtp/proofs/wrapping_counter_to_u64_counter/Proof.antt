@@ -63,7 +63,7 @@ returns c =
     let k = cycle-is s in
     let sub = c .before .before .before .wrapping-sub-u64 in
     let under =
-        less (base (s .args .bits) (s .args .reference) (s .args .got)) (2 ^ (s .args .bits)) (sub .result) (base-fits s) (pow-mono {i = s .args .bits} {j = 64} (omega arith)) (search needs) (cc (sub .ensures)) in
+    less (base (s .args .bits) (s .args .reference) (s .args .got)) (2 ^ (s .args .bits)) (sub .result) (base-fits s) (pow-mono {i = s .args .bits} {j = 64} (omega arith)) (search needs) (cc (sub .ensures)) in
     cc
 
 pub wrapping-counter-to-u64-counter-spec : {M : Type 1} → statement M
