@@ -78,7 +78,7 @@ fn references(width: u64, start: u64, cycle: u64) {
 
 fn cycles(width: u64, cycle: u64) {
     let mut start = wrapping_sub_u64(0, cycle);
-    for i in 0..5 {
+    for i in 0..5u64 {
         references(width, start, cycle);
         start = wrapping_add_u64(start, cycle);
     }
