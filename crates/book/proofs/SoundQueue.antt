@@ -1,0 +1,102 @@
+-- What a call that is not refused says of its values, and that the queue's own numbers then stay within check 16's bounds.
+use mathlib.Core.Path.{_≡_, refl}
+use mathlib.Core.Bool.{Bool, true, false, not, _&&_, _||_}
+use mathlib.Core.List.{List, [], _∷_}
+use Prim.Native.Nat.{ℕ, suc, _+_, _-_, _*_, _^_, _≤_, _<_}
+use native.Mathlib.Omega.{arith}
+use lib.Dec.{T, leb, ltb, eqb, leb→le, le→leb, nltb→le, lit<}
+use lib.Ieee.Fits.{and-l, and-r, and-i}
+use Rattle.rtp.specs.declared.opt.Opt.{Opt}
+use Rattle.refusals.specs.Refusals.{CLOCK, COUNT}
+use Rattle.durations.specs.Seconds.{largest}
+use Rattle.jitter.specs.declared.Jitter.{Jitter}
+use Rattle.jitter.specs.Interarrival.{jitterInRange}
+use Rattle.jitter.proofs.Range.{updated-in}
+use Rattle.rtx_state.specs.declared.OptRtt.{OptRtt}
+use Rattle.rtx_state.specs.RoundTrip.{sampledRtt, optRttInRange}
+use Rattle.rtx_state.proofs.Range.{sampled-in}
+use Rattle.model.specs.declared.LastReceived.{LastReceived}
+use Rattle.model.specs.declared.LastReceived.the-variants as LastReceived
+use Rattle.model.specs.declared.Queue.{Queue}
+use Rattle.model.specs.Lists.{some?}
+use Rattle.model.specs.Records.{Gap, Remembered, highestOf}
+use Rattle.model.specs.Rules.{Place, first, near, far, fills, other, rttAfterRepair, rttAfterLate}
+use Rattle.model.specs.Push.{jitterAfter, heard, lastAfter}
+use Rattle.model.specs.Valid.{lastSound}
+use Rattle.model.specs.Table.{refuseIf, clockRefusal, countRefusal}
+use Rattle.model.proofs.Lists.{by-cases, by-nor, Each, each-imp, each-not-of-some}
+use Rattle.book.proofs.Sound.{Under, CountersIn, QueueIn, RateIn, rate-of}
+
+-- ---- checks that pass
+
+pub not-refused : (t : Bool) (k : ℕ) → 0 < k → refuseIf t k ≡ 0 → T (not t)
+unfolding refuseIf
+not-refused true k h e = absurd (omega arith)
+not-refused false k h e = tt
+
+pub clock-of : (q : Queue) (now : ℕ) → clockRefusal q now ≡ 0 → (q .clock ≤ now) × (now ≤ largest)
+unfolding clockRefusal
+clock-of q now e =
+    by-nor (ltb largest now) (ltb now (q .clock)) (not-refused (ltb largest now || ltb now (q .clock)) CLOCK (lit< tt) e) (λ a b. (nltb→le now (q .clock) b, nltb→le largest now a))
+
+pub counts-of : (values : List ℕ) → countRefusal values ≡ 0 → Each (λ v. v ≤ largest) values
+unfolding countRefusal
+counts-of values e = each-imp (λ v h. nltb→le largest v h) (each-not-of-some (ltb largest) values (not-refused (some? (ltb largest) values) COUNT (lit< tt) e))
+
+-- ---- the last media packet
+
+pub last-later : {clock now : ℕ} (l : LastReceived) → clock ≤ now → T (lastSound clock l) → T (lastSound now l)
+unfolding lastSound
+last-later LastReceived.None le t = tt
+last-later {clock} {now} (LastReceived.Some r) le t =
+    let rest = leb (r .timestamp .0) largest && leb (r .number .0) largest in
+    and-i (leb (r .instant) now) rest (le→leb (r .instant) now (omega (arith, leb→le (r .instant) clock (and-l (leb (r .instant) clock) rest t)))) (and-r (leb (r .instant) clock) rest t)
+
+pub last-after : (now : ℕ) {ts n : ℕ} (p : Place) (l : LastReceived) → ts ≤ largest → n ≤ largest → T (lastSound now l) → T (lastSound now (lastAfter now ts n p l))
+unfolding lastAfter lastSound
+last-after now {ts} {n} p l a b t = go p
+  where
+    new : T (leb now now && (leb ts largest && leb n largest))
+    new = and-i (leb now now) (leb ts largest && leb n largest) (le→leb now now (omega arith)) (and-i (leb ts largest) (leb n largest) (le→leb ts largest a) (le→leb n largest b))
+
+    go : (p : Place) → T (lastSound now (lastAfter now ts n p l))
+    go first = new
+    go (near h) = new
+    go (far h) = new
+    go fills = t
+    go other = t
+
+-- a number below the highest
+pub under-fits : (clock : ℕ) {n : ℕ} (l : LastReceived) → T (lastSound clock l) → Under (highestOf l) n → n ≤ largest
+unfolding lastSound highestOf Under
+under-fits clock LastReceived.None t u = absurd u
+under-fits clock (LastReceived.Some r) t u =
+    let last = leb (r .number .0) largest in
+    omega (arith, leb→le (r .number .0) largest (and-r (leb (r .timestamp .0) largest) last (and-r (leb (r .instant) clock) (leb (r .timestamp .0) largest && last) t)))
+
+-- ---- jitter and round trip
+
+jitter-after : (clock : ℕ) {now ts rate : ℕ} (l : LastReceived) (j : Jitter) → 1 ≤ rate → rate ≤ 1000000 → now ≤ largest → ts ≤ largest → T (lastSound clock l) → T (jitterInRange rate j) → T (jitterInRange rate (jitterAfter now ts l j))
+unfolding jitterAfter lastSound
+jitter-after clock LastReceived.None j some small a b t h = h
+jitter-after clock {now} {ts} {rate} (LastReceived.Some r) j some small a b t h =
+    let c = leb→le (r .timestamp .0) largest (and-l (leb (r .timestamp .0) largest) (leb (r .number .0) largest) (and-r (leb (r .instant) clock) (leb (r .timestamp .0) largest && leb (r .number .0) largest) t)) in
+    updated-in rate some small j h now ts (r .instant) (r .timestamp .0) (omega arith) (omega arith) (omega arith)
+
+pub repair-in : {now : ℕ} (l : List Gap) (rtt : OptRtt) → now ≤ largest → T (optRttInRange rtt) → T (optRttInRange (rttAfterRepair now l rtt))
+unfolding rttAfterRepair
+repair-in [] rtt le t = t
+repair-in {now} (g ∷ gs) rtt le t = by-cases (λ r. T (optRttInRange r)) (eqb (g .nacks) 1) (λ y. sampled-in rtt (now - g .nackedAt) t (omega arith)) (λ n. t)
+
+pub late-in : {now : ℕ} (l : List Remembered) (rtt : OptRtt) → now ≤ largest → T (optRttInRange rtt) → T (optRttInRange (rttAfterLate now l rtt))
+unfolding rttAfterLate
+late-in [] rtt le t = t
+late-in {now} (r ∷ rs) rtt le t = sampled-in rtt (now - r .nackedAt) t (omega arith)
+
+-- ---- a packet is heard
+
+pub heard-in : {now ts : ℕ} (q : Queue) → QueueIn q → q .clock ≤ now → now ≤ largest → ts ≤ largest → QueueIn (heard now ts q)
+unfolding heard
+heard-in q h later a b =
+    let rate = rate-of (q .config) (h .config-in) in
+    record { config-in = h .config-in; last-in = last-later (q .last) later (h .last-in); counters-in = h .counters-in; rtx-in = h .rtx-in; jitter-in = jitter-after (q .clock) (q .last) (q .jitter) (rate .some) (rate .small) a b (h .last-in) (h .jitter-in); loss-in = h .loss-in }

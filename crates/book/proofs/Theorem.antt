@@ -1,0 +1,195 @@
+-- Demand 3. After every list of calls the tally gives the two lists, since two sorted lists that count alike are equal; the rest runs along from
+-- call to call. A refused call changes nothing. An accepted one leaves what `taken` says, read back from storage; check 16 finds nothing there.
+use mathlib.Core.Path.{_≡_, refl, sym, ap, _∙_, subst}
+use mathlib.Core.Logic.{_⊎_, inl, inr, _↔_}
+use mathlib.Core.Bool.{Bool, true, false, cond, not}
+use mathlib.Core.List.{List, [], _∷_, _++_, map, foldl, append-nil}
+use Prim.Native.Nat.{ℕ, suc, _+_, _-_, _%_, _^_, _≤_}
+use native.Mathlib.Omega.{arith}
+use lib.Dec.{T, eqb, eqb→eq}
+use lib.ListN.{length}
+use Rattle.rtp.specs.declared.opt.Opt.{Opt}
+use Rattle.config.specs.declared.RtpInboundQueueMode.{RtpInboundQueueMode}
+use Rattle.config.specs.declared.RtpInboundQueueMode.the-variants.{Passthrough, SortedQueue}
+use Rattle.model.specs.declared.Config.{Config}
+use Rattle.model.specs.Records.{Gap, State, newState, newQueue, entryNumbers, gapNumbers, highestOf, returnedOf}
+use Rattle.model.specs.Storage.{Storage, Stored, parse, write}
+use Rattle.model.specs.Calls as Calls
+use Rattle.model.specs.Calls.{Call, Answer, taken, answered}
+use Rattle.model.specs.Table.{sessionRefusal, refusal, openingRefusal}
+use Rattle.model.specs.Did.{Done, did, turnedBack, accepted}
+use Rattle.model.proofs.Laid as Laid
+use Rattle.model.proofs.Laid.{parse-write}
+use Rattle.model.proofs.Lists.{by-cases}
+use Rattle.book.specs.Sorted.{putAllIn, sort, Ascending}
+use Rattle.book.specs.Book as B
+use Rattle.book.specs.Book.{Span, none, fromTo, Book, empty, enter, allOf, arrived, accounted}
+use Rattle.book.specs.Claim.{hear, given, Run, start, call, calls, InOrder, Holds, Step, EveryListOfCalls, NeverLocksUp}
+use Rattle.book.proofs.Cases.{cond-yes}
+use Rattle.book.proofs.Count.{count, count-append, count-putAllIn, count-sort, Sorted, sorted-putAllIn, sorted-sort, sorted-same, sorted-following, none-counted}
+use Rattle.book.proofs.Tally.{total, Tally, tally-empty, tally-enter}
+use Rattle.book.proofs.Sound.{Sound, ListsOf, rising-ascending}
+use Rattle.book.proofs.SoundCalls.{writable, sound-session, left-sound, never-locks-up}
+use Rattle.book.proofs.Past.{PastOf, past-none, past-ascends}
+use Rattle.book.proofs.Same.{Same, same-taken}
+use Rattle.book.proofs.Moved.{Moved, outOf, given-out, moved-taken, past-taken, enter-forgets}
+
+-- ---- the two lists
+
+span-sorted : (s : Span) → Sorted (allOf s)
+unfolding allOf Sorted
+span-sorted none = tt
+span-sorted (fromTo f h) = sorted-following f (suc h - f)
+
+module _ (b : Book) (t : Tally b) where
+  count-accounted : (n : ℕ) → count n (accounted b) + count n (b .forgotten) ≡ count n (arrived b)
+  unfolding accounted total
+  count-accounted n =
+      omega (
+        arith,
+        t .tally n,
+        count-append n (b .handed) (b .waiting ++ (gapNumbers (b .missing) ++ b .lost)),
+        count-append n (b .waiting) (gapNumbers (b .missing) ++ b .lost),
+        count-append n (gapNumbers (b .missing)) (b .lost),
+      )
+
+  whole : arrived b ≡ putAllIn (b .forgotten) (sort (accounted b))
+  unfolding arrived
+  whole =
+      sorted-same (arrived b) (putAllIn (b .forgotten) (sort (accounted b))) (span-sorted (b .span)) (sorted-putAllIn (b .forgotten) (sort (accounted b)) (sorted-sort (accounted b)))
+      (λ n. omega (arith, count-accounted n, count-putAllIn n (b .forgotten) (sort (accounted b)), count-sort n (accounted b)))
+
+  exactly : (arrived b ≡ sort (accounted b)) ↔ (b .forgotten ≡ [])
+  unfolding putAllIn
+  exactly = (
+    (λ e. none-counted (b .forgotten) (λ n. omega (arith, count-accounted n, count-sort n (accounted b), ap (count n) e))),
+    (λ e. whole ∙ ap (λ (l : List ℕ). putAllIn l (sort (accounted b))) e),
+  )
+
+-- ---- what runs along
+
+record Inv (c : Config) (s : State) (b : Book) (returned : List ℕ) : Type 0 where
+  tally : Tally b
+  same : Same c s b
+  past : PastOf (c .settings .mode) (b .handed) s
+  returned-are : returned ≡ map (λ (n : ℕ). n % 2 ^ 16) (b .handed)
+
+inv-new : (c : Config) → Inv c (newState c) empty []
+unfolding newState newQueue empty B.highest highestOf returnedOf
+inv-new c =
+    record {
+      tally = tally-empty;
+      same = record { config = refl; entries = refl; gaps = refl; highest = refl; estimate = refl; remembered = refl };
+      past = past-none (c .settings .mode);
+      returned-are = refl;
+    }
+
+inv-taken : (k : Call) {c : Config} {s : State} {b : Book} {r : List ℕ} → ListsOf s → Inv c s b r → Inv c (taken k s) (enter c k (hear (answered k s)) b) (r ++ given (answered k s))
+inv-taken k {c} {s} {b} {r} f i =
+    record {
+      tally = tally-enter c k (hear (answered k s)) b (i .tally);
+      same = same-taken k (i .same) f (i .past);
+      past = past-taken k (i .same) f (i .past);
+      returned-are = rw (i .returned-are, given-out, moved-taken k (i .same) .handed) (sym (mathlib.Core.List.map-append _ (b .handed) (outOf k s)));
+    }
+
+in-order : (mode : RtpInboundQueueMode) (s : State) (out : List ℕ) → PastOf mode out s → InOrder mode out
+unfolding InOrder
+in-order Passthrough s out p = tt
+in-order SortedQueue s out p = past-ascends (returnedOf (s .queue .returned)) out (s .remembered) p
+
+holds : {c : Config} {x : Run} → Sound (parse (x .stored)) → Inv c (parse (x .stored)) (x .book) (x .returned) → Holds c x
+holds {c} {x} f i =
+    record {
+      exactly = exactly (x .book) (i .tally);
+      whole = whole (x .book) (i .tally);
+      entries = i .same .entries;
+      gaps = i .same .gaps;
+      highest-number = i .same .highest;
+      returned = i .returned-are;
+      in-order = in-order (c .settings .mode) (parse (x .stored)) (x .book .handed) (i .past);
+      waiting-ascends = subst Ascending (i .same .entries) (rising-ascending _ (f .lists-in .entries-rise));
+      missing-ascends = subst (λ (l : List Gap). Ascending (gapNumbers l)) (i .same .gaps) (rising-ascending _ (f .lists-in .gaps-rise));
+    }
+
+-- ---- calls on stored bytes
+
+read-new : (c : Config) → parse (write (newState c)) ≡ newState c
+unfolding newState Laid.Each
+read-new c = parse-write (newState c) (record { payloads = tt; gaps = tt })
+
+read-taken : (k : Call) (m : Stored) → refusal k m ≡ 0 → parse (write (taken k (parse m))) ≡ taken k (parse m)
+read-taken k m e = parse-write (taken k (parse m)) (writable (left-sound k m e))
+
+-- what every list of calls leaves
+record Left (c : Config) (x : Run) : Type 0 where
+  sound : sessionRefusal (x .stored) ≡ 0
+  inv : Inv c (parse (x .stored)) (x .book) (x .returned)
+
+left-start : (c : Config) (t : Storage) → openingRefusal c t ≡ 0 → Left c (start c)
+unfolding start
+left-start c t e = record { sound = never-locks-up .at-opening c t e; inv = rw read-new (inv-new c) }
+
+module _ (c : Config) (x : Run) (k : Call) (r : Left c x) where
+  -- the run after what the call did
+  abbrev after : Done → Run
+  after d = record { stored = d .stored; book = enter c k (hear (d .answer)) (x .book); returned = x .returned ++ given (d .answer) }
+
+  did-accepted : T (eqb (refusal k (x .stored)) 0) → did k (x .stored) ≡ accepted k (parse (x .stored))
+  unfolding did
+  did-accepted t = cond-yes (eqb (refusal k (x .stored)) 0) _ _ t
+
+  left-accepted : T (eqb (refusal k (x .stored)) 0) → Left c (after (accepted k (parse (x .stored))))
+  unfolding accepted
+  left-accepted t =
+      let e : refusal k (x .stored) ≡ 0 = eqb→eq (refusal k (x .stored)) 0 t in
+      record {
+        sound = subst (λ (d : Done). sessionRefusal (d .stored) ≡ 0) (did-accepted t) (never-locks-up .at-call k (x .stored) e);
+        inv = rw (read-taken k (x .stored) e) (inv-taken k (sound-session (x .stored) (r .sound) .lists-in) (r .inv));
+      }
+
+  left-refused : Left c (after (turnedBack (refusal k (x .stored)) k (x .stored)))
+  unfolding turnedBack hear given enter
+  left-refused = record { sound = r .sound; inv = rw append-nil (r .inv) }
+
+  left-call : Left c (call c x k)
+  unfolding call did
+  left-call = by-cases (λ (d : Done). Left c (after d)) (eqb (refusal k (x .stored)) 0) left-accepted (λ t. left-refused)
+
+  -- the newly lost, and their count
+  Loses : Done → Type 0
+  Loses d =
+      (newly : List ℕ)
+      × (enter c k (hear (d .answer)) (x .book) .lost ≡ x .book .lost ++ newly)
+      × (parse (d .stored) .queue .counters .lost ≡ parse (x .stored) .queue .counters .lost + length newly)
+
+  loses-accepted : T (eqb (refusal k (x .stored)) 0) → Loses (accepted k (parse (x .stored)))
+  unfolding accepted Loses
+  loses-accepted t =
+      let m = moved-taken k (r .inv .same) in
+      (m .newly, m .lost, rw (read-taken k (x .stored) (eqb→eq (refusal k (x .stored)) 0 t)) (m .counted))
+
+  loses-refused : Loses (turnedBack (refusal k (x .stored)) k (x .stored))
+  unfolding turnedBack hear enter Loses
+  loses-refused = ([], sym (append-nil (x .book .lost)), omega arith)
+
+  step : Step c x k
+  unfolding call did Loses
+  step =
+      let l : Loses (did k (x .stored)) = by-cases Loses (eqb (refusal k (x .stored)) 0) loses-accepted (λ t. loses-refused) in
+      record { newly = l .0; lost = l .1; counted = l .2; forgets = enter-forgets c k (hear (did k (x .stored) .answer)) (x .book) }
+
+left-calls : (c : Config) (ks : List Call) (x : Run) → Left c x → Left c (foldl (call c) x ks)
+left-calls c [] x r = r
+left-calls c (k ∷ ks) x r = left-calls c ks (call c x k) (left-call c x k r)
+
+left : (c : Config) (t : Storage) (ks : List Call) → openingRefusal c t ≡ 0 → Left c (calls c ks)
+unfolding calls
+left c t ks e = left-calls c ks (start c) (left-start c t e)
+
+pub every-list-of-calls : EveryListOfCalls
+every-list-of-calls =
+    record {
+      every = λ c t ks e. let r : Left c (calls c ks) = left c t ks e in holds (sound-session (calls c ks .stored) (r .sound)) (r .inv);
+      further = λ c t ks k e. step c (calls c ks) k (left c t ks e);
+    }

@@ -1,0 +1,217 @@
+-- 01, "Book", a term that 01 coins: which number waits, is missing, was handed out, lost or forgotten (01's word too). It is fed the settings,
+-- each call, and of the answers only whether the call was refused and whether `poll` handed out. It never looks at a session.
+use mathlib.Core.Bool.{Bool, true, false, cond}
+use mathlib.Core.List.{List, [], _∷_, _++_}
+use Prim.Native.Nat.{ℕ, suc, _-_}
+use lib.Dec.{ltb}
+use lib.ListN.{length}
+use Rattle.rtp.specs.declared.opt.Opt.{Opt}
+use Rattle.rtp.specs.declared.opt.Opt.the-variants.{None, Some}
+use Rattle.rtp_packet.specs.Header.{sequenceNumber, payloadOf}
+use Rattle.rtp_packet.specs.Original.{originalNumber}
+use Rattle.rtx_state.specs.declared.OptRtt.{OptRtt}
+use Rattle.rtx_state.specs.declared.OptRtt.the-variants as OptRtt
+use Rattle.model.specs.declared.Config.{Config}
+use Rattle.model.specs.Lists.{following, keep, some?}
+use Rattle.model.specs.Records.{Gap, Remembered, gapNumbers}
+use Rattle.model.specs.Rules.{extended, is, gapOf, without, gapsBelow, gapsFrom, Place, first, near, far, fills, other, placeOf, waits, between, gapsAfter, nackDue, rttAfterRepair, isOf, rttAfterLate, forgetFirst, rememberedAfter}
+use Rattle.model.specs.Poll.{givenUp, notGivenUp, lostBelow, leftFrom}
+use Rattle.model.specs.Calls.{Call, media, repair, poll, pollNack, timeoutReceive, timeoutNack, rtxStats, highestReceived}
+use Rattle.book.specs.Sorted.{putIn}
+
+-- What the book hears of an answer: the call was refused, or it was accepted, with whether it was a `poll` that handed out.
+pub data Heard : Type 0 where
+  refused : Heard
+  accepted : Bool → Heard
+
+-- "the first and highest accepted media number"
+pub data Span : Type 0 where
+  none : Span
+  fromTo : ℕ → ℕ → Span
+
+unfoldable pub highest : Span → Opt
+highest none = None
+highest (fromTo f h) = Some h
+
+pub record Book : Type 0 where
+  pub span : Span
+  -- ascending
+  pub waiting : List ℕ
+  -- ascending, each with its NACKs
+  pub missing : List Gap
+  -- in the order of handing out
+  pub handed : List ℕ
+  pub lost : List ℕ
+  pub forgotten : List ℕ
+  -- "NACKs and resend delay being reckoned in the book after Gap and Repair state": from these
+  pub estimate : OptRtt
+  pub remembered : List Remembered
+
+-- "none at the opening"
+unfoldable pub empty : Book
+empty = record { span = none; waiting = []; missing = []; handed = []; lost = []; forgotten = []; estimate = OptRtt.None; remembered = [] }
+
+-- ---- media
+
+unfoldable pub spanAfter : ℕ → Place → Span → Span
+spanAfter n first s = fromTo n n
+spanAfter n (near h) none = none
+spanAfter n (near h) (fromTo f g) = fromTo f n
+spanAfter n (far h) none = none
+spanAfter n (far h) (fromTo f g) = fromTo f n
+spanAfter n fills s = s
+spanAfter n other s = s
+
+-- "with s over 1,000, are forgotten with all then missing"
+unfoldable pub forgottenBy : ℕ → Place → List Gap → List ℕ
+forgottenBy n first l = []
+forgottenBy n (near h) l = []
+forgottenBy n (far h) l = gapNumbers l ++ between h n
+forgottenBy n fills l = []
+forgottenBy n other l = []
+
+-- "the first waits. One s above the highest waits; those between go missing or .. are forgotten .. . A missing one waits"
+unfoldable pub arrive : ℕ → ℕ → Place → Book → Book
+arrive now n p b =
+    record {
+      span = spanAfter n p (b .span);
+      waiting = putIn n (b .waiting);
+      missing = gapsAfter now n p (b .missing);
+      handed = b .handed;
+      lost = b .lost;
+      forgotten = b .forgotten ++ forgottenBy n p (b .missing);
+      estimate = b .estimate;
+      remembered = b .remembered;
+    }
+
+-- "the lowest waiting and all missing below it are forgotten"
+unfoldable pub pushOut : List ℕ → Book → Book
+pushOut [] b = b
+pushOut (w ∷ ws) b =
+    record {
+      span = b .span;
+      waiting = ws;
+      missing = gapsFrom w (b .missing);
+      handed = b .handed;
+      lost = b .lost;
+      forgotten = b .forgotten ++ (w ∷ gapNumbers (gapsBelow w (b .missing)));
+      estimate = b .estimate;
+      remembered = b .remembered;
+    }
+
+-- "over D now do"
+unfoldable pub overfull : ℕ → Book → Bool
+overfull depth b = ltb depth (length (b .waiting))
+
+unfoldable pub withinDepth : ℕ → Book → Book
+withinDepth depth b = cond (overfull depth b) (pushOut (b .waiting) b) b
+
+-- "any other moves no number"
+unfoldable pub onMedia : Config → ℕ → ℕ → Place → Book → Book
+onMedia c now n p b = cond (waits p) (withinDepth (c .settings .«max_entries») (arrive now n p b)) b
+
+-- ---- a repair
+
+-- "a missing number waits"
+unfoldable pub recover : ℕ → ℕ → Book → Book
+recover now n b =
+    record {
+      span = b .span;
+      waiting = putIn n (b .waiting);
+      missing = without n (b .missing);
+      handed = b .handed;
+      lost = b .lost;
+      forgotten = b .forgotten;
+      estimate = rttAfterRepair now (gapOf n (b .missing)) (b .estimate);
+      remembered = b .remembered;
+    }
+
+-- a remembered number gives a sample; any other does nothing
+unfoldable pub tooLate : ℕ → ℕ → Book → Book
+tooLate now n b =
+    record {
+      span = b .span;
+      waiting = b .waiting;
+      missing = b .missing;
+      handed = b .handed;
+      lost = b .lost;
+      forgotten = b .forgotten;
+      estimate = rttAfterLate now (keep (isOf n) (b .remembered)) (b .estimate);
+      remembered = forgetFirst n (b .remembered);
+    }
+
+unfoldable pub onRepair : ℕ → ℕ → Book → Book
+onRepair now n b = cond (some? (is n) (b .missing)) (recover now n b) (tooLate now n b)
+
+-- ---- `poll` and `poll_nack`
+
+-- "missing ones become lost as under Hand-out"
+unfoldable pub giveUp : Config → Book → Book
+giveUp c b =
+    record {
+      span = b .span;
+      waiting = b .waiting;
+      missing = notGivenUp (c .settings) (c .settings .mode) (b .missing);
+      handed = b .handed;
+      lost = b .lost ++ gapNumbers (givenUp (c .settings) (c .settings .mode) (b .missing));
+      forgotten = b .forgotten;
+      estimate = b .estimate;
+      remembered = b .remembered;
+    }
+
+-- "a `poll` that hands out takes the lowest waiting"
+unfoldable pub takeLowest : Config → List ℕ → Book → Book
+takeLowest c [] b = b
+takeLowest c (w ∷ ws) b =
+    record {
+      span = b .span;
+      waiting = ws;
+      missing = leftFrom (c .settings .mode) w (b .missing);
+      handed = b .handed ++ (w ∷ []);
+      lost = b .lost ++ gapNumbers (lostBelow (c .settings .mode) w (b .missing));
+      forgotten = b .forgotten;
+      estimate = b .estimate;
+      remembered = rememberedAfter (c .senders .«has_rtx») (lostBelow (c .settings .mode) w (b .missing)) (b .remembered);
+    }
+
+unfoldable pub onPoll : Config → Bool → Book → Book
+onPoll c out b = cond out (takeLowest c (b .waiting) (giveUp c b)) (giveUp c b)
+
+unfoldable pub nackAll : Config → ℕ → Book → Book
+nackAll c now b =
+    record { span = b .span; waiting = b .waiting; missing = nackDue (c .settings) (b .estimate) now (b .missing); handed = b .handed; lost = b .lost; forgotten = b .forgotten; estimate = b .estimate; remembered = b .remembered }
+
+-- ---- any call
+
+-- "Numbers are extended as under Numbers, with the references of 000": the reference is the highest
+unfoldable pub read : Book → ℕ → ℕ
+read b n = extended 16 (highest (b .span)) n
+
+unfoldable pub enter : Config → Call → Heard → Book → Book
+unfolding read
+enter c call refused b = b
+enter c (media now d) (accepted out) b =
+    let n = read b (sequenceNumber d) in
+    onMedia c now n (placeOf (highest (b .span)) (b .missing) n) b
+enter c (repair now d) (accepted out) b = onRepair now (read b (originalNumber (payloadOf d))) b
+enter c (poll now lent) (accepted out) b = onPoll c out b
+enter c (pollNack now lent) (accepted out) b = nackAll c now (giveUp c b)
+enter c (timeoutReceive now) (accepted out) b = b
+enter c (timeoutNack now) (accepted out) b = b
+enter c rtxStats (accepted out) b = b
+enter c highestReceived (accepted out) b = b
+
+-- ---- the two lists of demand 3
+
+unfoldable pub allOf : Span → List ℕ
+allOf none = []
+allOf (fromTo f h) = following f (suc h - f)
+
+-- "all from the first accepted media packet to the highest"
+unfoldable pub arrived : Book → List ℕ
+unfolding allOf
+arrived b = allOf (b .span)
+
+-- "those handed out, waiting, missing or lost"
+unfoldable pub accounted : Book → List ℕ
+accounted b = b .handed ++ (b .waiting ++ (gapNumbers (b .missing) ++ b .lost))

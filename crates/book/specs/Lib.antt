@@ -1,0 +1,5 @@
+-- The book, the claim over every list of calls, and 01's table of proved rows.
+pub mod Sorted
+pub mod Book
+pub mod Claim
+pub mod Rows

@@ -1,0 +1,102 @@
+-- 01, "Examples": the rows marked P, as one table. Rows on media numbers are real calls on a newly opened session in its storage.
+use mathlib.Core.Path.{_≡_}
+use mathlib.Core.Bool.{true, cond}
+use mathlib.Core.List.{List, [], _∷_, map, foldl}
+use Prim.Native.Nat.{ℕ, _/_, _%_}
+use lib.Dec.{eqb}
+use lib.ListN.{length}
+use Rattle.rtp.specs.declared.opt.Opt.the-variants as Opt
+use Rattle.rtx_state.specs.declared.OptRtt.{OptRtt}
+use Rattle.rtx_state.specs.declared.OptRtt.the-variants as OptRtt
+use Rattle.rtx_state.specs.RoundTrip.{sampledRtt}
+use Rattle.config.specs.declared.RtpInboundQueueMode.the-variants.{SortedQueue}
+use Rattle.rtp_packet.specs.Original.{originalRefusal, originalNumber, originalPayload}
+use Rattle.model.specs.declared.Config.{Config}
+use Rattle.model.specs.Rules.{extended}
+use Rattle.model.specs.Storage.{parse}
+use Rattle.model.specs.Calls.{Call, media}
+use Rattle.book.specs.Sorted.{sort}
+use Rattle.book.specs.Book.{arrived, accounted}
+use Rattle.book.specs.Claim.{Run, calls}
+
+-- ---- what a row asks, and what it says
+
+pub data Question : Type 0 where
+  reference : (highest number : ℕ) → Question
+  -- gaps and forgotten numbers after media packets with these numbers, at depth D
+  counts : (D : ℕ) → List ℕ → Question
+  -- the two lists of demand 3 after them
+  lists : (D : ℕ) → List ℕ → Question
+  samples : List ℕ → Question
+  repairPayload : List ℕ → Question
+
+pub data Found : Type 0 where
+  number : ℕ → Found
+  counted : (gaps forgotten : ℕ) → Found
+  listed : (all accounted : List ℕ) → Found
+  estimate : OptRtt → Found
+  original : (number : ℕ) (payload : List ℕ) → Found
+  refused : ℕ → Found
+
+pub record Row : Type 0 where
+  pub asked : Question
+  pub said : Found
+
+-- ---- the table
+
+unfoldable pub rows : List Row
+rows =
+    -- "reference 65,535, number 0: 65,536"
+    record { asked = reference 65535 0; said = number 65536 }
+    -- "reference 65,540, number 65,535: 65,535"
+    ∷ record { asked = reference 65540 65535; said = number 65535 }
+    -- "reference 65,536, number 32,768: 98,304"
+    ∷ record { asked = reference 65536 32768; said = number 98304 }
+    -- "reference 98,304, number 0: 65,536"
+    ∷ record { asked = reference 98304 0; said = number 65536 }
+    -- "reference 5, number 65,530: 65,530"
+    ∷ record { asked = reference 5 65530; said = number 65530 }
+    -- "10 then 1,010: 999 gaps"
+    ∷ record { asked = counts 2 (10 ∷ 1010 ∷ []); said = counted 999 0 }
+    -- "D = 2, 10 then 1,011: none, 1,000 forgotten"
+    ∷ record { asked = counts 2 (10 ∷ 1011 ∷ []); said = counted 0 1000 }
+    -- "D = 1, numbers 10, 12: lists 10, 11, 12 and 11, 12"
+    ∷ record { asked = lists 1 (10 ∷ 12 ∷ []); said = listed (10 ∷ 11 ∷ 12 ∷ []) (11 ∷ 12 ∷ []) }
+    -- "samples 80, 100: srtt 82, variation 35"
+    ∷ record { asked = samples (80 ∷ 100 ∷ []); said = estimate (OptRtt.Some (record { srtt = 82; variation = 35 })) }
+    -- "repair payload 00 0B (hexadecimal): number 11, empty payload"
+    ∷ record { asked = repairPayload (0x00 ∷ 0x0b ∷ []); said = original 11 [] }
+    -- "Payload 00: refusal 11"
+    ∷ record { asked = repairPayload (0x00 ∷ []); said = refused 11 }
+    ∷ []
+
+-- ---- what is found
+
+-- a session of depth D, with room for the fewest gaps that the opening takes; sender and payload type are 0
+abbrev pub config : ℕ → Config
+config D =
+    record {
+      settings =
+          record { mode = SortedQueue; «clock_rate» = 8000; «max_entries» = D; «max_gaps» = 999; delay = 100000000; «initial_nack_delay» = 5000000; «default_nack_resend_delay» = 20000000; «max_nack_attempts» = 10; «nack_window» = 1000000000 };
+      senders = record { pt = 0; ssrc = record { 0 = 0 }; «has_rtx» = true; «rtx_pt» = 1; «rtx_ssrc» = record { 0 = 1 } };
+    }
+
+-- RFC 3550, section 5.1: a header with this number, and nothing after it
+abbrev pub datagram : ℕ → List ℕ
+datagram n = 0x80 ∷ 0 ∷ n / 256 ∷ n % 256 ∷ 0 ∷ 0 ∷ 0 ∷ 0 ∷ 0 ∷ 0 ∷ 0 ∷ 0 ∷ []
+
+-- media packets with these numbers, all at instant 0, on a newly opened session
+unfoldable pub received : ℕ → List ℕ → Run
+received D numbers = calls (config D) (map (λ (n : ℕ). media 0 (datagram n)) numbers)
+
+unfoldable pub answer : Question → Found
+unfolding received
+answer (reference highest n) = number (extended 16 (Opt.Some highest) n)
+answer (counts D numbers) = counted (length (parse (received D numbers .stored) .gaps)) (length (received D numbers .book .forgotten))
+answer (lists D numbers) = listed (arrived (received D numbers .book)) (sort (accounted (received D numbers .book)))
+answer (samples l) = estimate (foldl sampledRtt OptRtt.None l)
+answer (repairPayload p) = cond (eqb (originalRefusal p) 0) (original (originalNumber p) (originalPayload p)) (refused (originalRefusal p))
+
+unfoldable pub RowsHold : Type 0
+unfolding answer rows
+RowsHold = map (λ (r : Row). answer (r .asked)) rows ≡ map (λ (r : Row). r .said) rows

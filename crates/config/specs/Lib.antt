@@ -1,0 +1,3 @@
+-- The specifications of `config`.
+pub mod Timings
+pub mod Valid

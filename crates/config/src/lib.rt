@@ -1,0 +1,98 @@
+// Settings (003) of a session, flat: the opening checks every field, whether the mode uses it or not (01, refusal 1).
+ghost use mathlib.Core.Path.{_≡_};
+ghost use Prim.Native.Nat.{_<_, _^_};
+ghost use lib.Dec.{T};
+ghost use Rattle.rtx_state.specs.RoundTrip.{optRttInRange};
+ghost use Rattle.config.specs.Timings.{nackTimings, targetDelay};
+ghost use Rattle.config.specs.Valid.{settingsValid, sendersValid};
+use rtp::Ssrc;
+use rtx_state::OptRtt;
+
+// The longest duration of a setting, a minute.
+pub const LONGEST: u64 = 60000000000;
+
+pub enum RtpInboundQueueMode {
+    // Packets are handed out at once.
+    Passthrough,
+    // Packets are put in order and kept for a fixed delay.
+    SortedQueue,
+}
+
+// Durations are nanoseconds.
+pub struct Settings {
+    pub mode: RtpInboundQueueMode,
+    pub clock_rate: u32,
+    // 01's D.
+    pub max_entries: usize,
+    // 01's G.
+    pub max_gaps: usize,
+    // How long a sorted queue keeps a packet.
+    pub delay: u64,
+    // How long to wait before a gap is NACKed.
+    pub initial_nack_delay: u64,
+    // How long to wait before it is NACKed again, as long as no round trip was measured.
+    pub default_nack_resend_delay: u64,
+    pub max_nack_attempts: u32,
+    // Kept as in the Rust, where it has no effect.
+    pub nack_window: u64,
+}
+
+// Whose packets the session takes.
+pub struct Senders {
+    pub pt: u8,
+    pub ssrc: Ssrc,
+    pub has_rtx: bool,
+    pub rtx_pt: u8,
+    pub rtx_ssrc: Ssrc,
+}
+
+pub struct NackTimings {
+    pub initial: u64,
+    pub resend: u64,
+}
+
+impl Settings {
+    pub fn nack_timings(self, rtt: OptRtt) -> NackTimings
+        requires { ⌜ T (optRttInRange rtt) ⌝ }
+        ensures { λ r. ⌜ r ≡ nackTimings self rtt ⌝ }
+        ensures { λ r. ⌜ (T (settingsValid self) → r .resend < 2 ^ 54) ⌝ }
+    {
+        let resend = match rtt {
+            OptRtt::None => self.default_nack_resend_delay,
+            OptRtt::Some(e) => e.nack_resend_delay(),
+        };
+        NackTimings {
+            initial: self.initial_nack_delay,
+            resend,
+        }
+    }
+
+    pub fn target_delay(self) -> u64
+        ensures { λ r. ⌜ r ≡ targetDelay self ⌝ }
+    {
+        self.delay
+    }
+
+    // Refusal 1's test.
+    pub fn is_valid(self) -> bool
+        ensures { λ r. ⌜ r ≡ settingsValid self ⌝ }
+    {
+        ((1 <= self.clock_rate) & (self.clock_rate <= 1000000))
+            & ((1 <= self.max_entries) & (self.max_entries <= 1024))
+            & ((999 <= self.max_gaps) & (self.max_gaps <= 4096))
+            & (self.delay <= LONGEST)
+            & (self.initial_nack_delay <= LONGEST)
+            & (self.default_nack_resend_delay <= LONGEST)
+            & (self.nack_window <= LONGEST)
+            & ((1 <= self.max_nack_attempts) & (self.max_nack_attempts <= 255))
+    }
+}
+
+impl Senders {
+    // Refusal 1's test.
+    pub fn is_valid(self) -> bool
+        ensures { λ r. ⌜ r ≡ sendersValid self ⌝ }
+    {
+        (self.pt <= 127) & (self.rtx_pt <= 127)
+    }
+}

@@ -1,0 +1,3 @@
+-- What the proofs of several functions, and of other crates, use.
+pub mod Signed
+pub mod Behind

@@ -1,0 +1,3 @@
+-- The specifications of `handout`.
+pub mod Limit
+pub mod Timeout

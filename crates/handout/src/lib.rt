@@ -1,0 +1,106 @@
+// Hand-out of a sorted queue (000): up to which timestamp packets are handed out, and when the next is due.
+ghost use mathlib.Core.Path.{_≡_};
+ghost use Prim.Native.Nat.{_≤_, _<_, _^_};
+ghost use lib.IntN.{pos, _+ℤ_};
+ghost use lib.Signed.{mag};
+ghost use lib.Ieee.{Float};
+ghost use Rattle.durations.specs.Seconds.{largest, fromSecsF64};
+ghost use Rattle.config.specs.Valid.{longest};
+ghost use Rattle.handout.specs.Limit.{deltaInRtpTimesteps, asTimestamp, mapInstantToRtpTimestamp, maxTimestamp};
+ghost use Rattle.handout.specs.Timeout.{behind, remainingOf, timeoutReceive};
+use durations::FromSecs;
+use rtp::ExtendedRtpTimestamp;
+use rtp::opt::Opt;
+
+// The limit: packets of at most this timestamp are handed out at `now`; where there is none, nothing is.
+pub fn max_timestamp(
+    last_instant: u64,
+    last_timestamp: ExtendedRtpTimestamp,
+    clock_rate: u32,
+    delay: u64,
+    now: u64,
+) -> Opt
+    requires { ⌜ («last_instant» ≤ largest) × («last_timestamp» .0 ≤ largest) × («clock_rate» ≤ 1000000) × (delay ≤ longest) × (now ≤ largest) ⌝ }
+    ensures { λ r. ⌜ r ≡ maxTimestamp «last_instant» («last_timestamp» .0) «clock_rate» delay now ⌝ }
+{
+    let pop_earliest = (now as i64) - (delay as i64);
+    map_instant_to_rtp_timestamp(last_instant, last_timestamp, clock_rate, pop_earliest)
+}
+
+// The timestamp that stands at `instant`, which may be below 0; none where it would be negative.
+pub fn map_instant_to_rtp_timestamp(
+    reference_instant: u64,
+    reference_timestamp: ExtendedRtpTimestamp,
+    clock_rate: u32,
+    instant: i64,
+) -> Opt
+    requires { ⌜ («reference_instant» ≤ largest) × («reference_timestamp» .0 ≤ largest) × («clock_rate» ≤ 1000000) × (mag instant < 2 ^ 53) ⌝ }
+    ensures { λ r. ⌜ r ≡ mapInstantToRtpTimestamp «reference_instant» («reference_timestamp» .0) «clock_rate» instant ⌝ }
+{
+    let delta = instant - (reference_instant as i64);
+    add_timesteps(
+        reference_timestamp.0,
+        delta_in_rtp_timesteps(delta, clock_rate),
+    )
+}
+
+// A signed number of nanoseconds in the clock's units, cut toward zero.
+fn delta_in_rtp_timesteps(delta: i64, clock_rate: u32) -> i64
+    requires { ⌜ (mag delta < 2 ^ 54) × («clock_rate» ≤ 1000000) ⌝ }
+    ensures { λ r. ⌜ (r ≡ deltaInRtpTimesteps delta «clock_rate») × (mag r < 2 ^ 62) ⌝ }
+{
+    std::num::truncating_f64_to_i64(durations::signed_seconds(delta) * (clock_rate as f64))
+}
+
+fn add_timesteps(timestamp: u64, steps: i64) -> Opt
+    requires { ⌜ (timestamp ≤ largest) × (mag steps < 2 ^ 62) ⌝ }
+    ensures { λ r. ⌜ r ≡ asTimestamp (pos timestamp +ℤ steps) ⌝ }
+{
+    let sum = (timestamp as i64) + steps;
+    if sum < 0 {
+        Opt::None
+    } else {
+        Opt::Some(sum as u64)
+    }
+}
+
+// Nanoseconds until the front packet, that of the earliest timestamp, is due.
+pub fn timeout_receive(
+    last_instant: u64,
+    last_timestamp: ExtendedRtpTimestamp,
+    earliest_timestamp: ExtendedRtpTimestamp,
+    clock_rate: u32,
+    delay: u64,
+    now: u64,
+) -> u64
+    requires { ⌜ («last_instant» ≤ largest) × («last_timestamp» .0 ≤ largest) × («earliest_timestamp» .0 ≤ largest) × (1 ≤ «clock_rate») × (delay ≤ longest) × (now ≤ largest) ⌝ }
+    ensures { λ r. ⌜ r ≡ timeoutReceive «last_instant» («last_timestamp» .0) («earliest_timestamp» .0) «clock_rate» delay now ⌝ }
+{
+    match delta(last_timestamp.0, earliest_timestamp.0, clock_rate) {
+        FromSecs::Nanos(ns) => remaining(last_instant, ns, delay, now),
+        FromSecs::Refused => 0,
+    }
+}
+
+// How long before the last packet the front one was sent.
+fn delta(last_timestamp: u64, earliest_timestamp: u64, clock_rate: u32) -> FromSecs
+    requires { ⌜ («last_timestamp» ≤ largest) × («earliest_timestamp» ≤ largest) ⌝ }
+    ensures { λ r. ⌜ r ≡ fromSecsF64 (behind «last_timestamp» «earliest_timestamp» «clock_rate») ⌝ }
+{
+    let delta = (last_timestamp as f64) - (earliest_timestamp as f64);
+    let max = if delta > 0.0 { delta } else { 0.0 };
+    durations::from_secs_f64(max / (clock_rate as f64))
+}
+
+// What is left at `now` until delta before the last instant, plus the delay.
+fn remaining(last_instant: u64, delta: u64, delay: u64, now: u64) -> u64
+    requires { ⌜ («last_instant» ≤ largest) × (delay ≤ longest) × (now ≤ largest) ⌝ }
+    ensures { λ r. ⌜ r ≡ remainingOf «last_instant» delta delay now ⌝ }
+{
+    if delta > 9007199254740992 {
+        return 0;
+    }
+    let due = last_instant + delay;
+    let passed = delta + now;
+    if passed <= due { due - passed } else { 0 }
+}

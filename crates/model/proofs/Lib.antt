@@ -1,0 +1,4 @@
+-- Laws of the definitions of specs/.
+pub mod Lists
+pub mod Laid
+pub mod Kept

@@ -1,0 +1,121 @@
+-- The calls, what each answers and what it leaves: the opening and the eight of 01.
+use mathlib.Core.Bool.{Bool, true, false, cond}
+use mathlib.Core.List.{List, [], _∷_, map}
+use Prim.Native.Nat.{ℕ, _+_, _%_, _^_}
+use lib.Dec.{eqb}
+use lib.ListN.{length}
+use Rattle.words.specs.Words.{over}
+use Rattle.rtp.specs.declared.opt.Opt.{Opt}
+use Rattle.stats.specs.declared.OptRtxStats.{OptRtxStats}
+use Rattle.config.specs.declared.RtpInboundQueueMode.{RtpInboundQueueMode}
+use Rattle.config.specs.declared.RtpInboundQueueMode.the-variants.{Passthrough, SortedQueue}
+use Rattle.config.specs.declared.Settings.{Settings}
+use Rattle.config.specs.declared.Senders.{Senders}
+use Rattle.config.specs.Timings.{targetDelay}
+use Rattle.model.specs.declared.Queue.{Queue}
+use Rattle.model.specs.Records.{Entry, State, highestOf}
+use Rattle.model.specs.Rules.{waits}
+use Rattle.model.specs.Push.{mediaEntry, mediaPlace, afterMedia, Fate, repairEntry, repairFate, afterRepair}
+use Rattle.model.specs.Poll.{front, afterPoll, nackNumbers, afterPollNack, receiveTimeout, nackTimeout, figures}
+
+-- A call with its own arguments; `now` is the first. The last argument of `poll` and `pollNack` is the lent output.
+pub data Call : Type 0 where
+  media repair : ℕ → List ℕ → Call
+  poll pollNack : ℕ → List ℕ → Call
+  timeoutReceive timeoutNack : ℕ → Call
+  rtxStats highestReceived : Call
+
+-- What `poll` returns beside the payload: the packet's own fields, its arrival and the delay.
+pub record Packet : Type 0 where
+  pub pt : ℕ
+  pub number : ℕ
+  pub timestamp : ℕ
+  pub ssrc : ℕ
+  pub marker : Bool
+  pub arrival : Opt
+  pub delay : ℕ
+  -- how many bytes of the output are its payload
+  pub size : ℕ
+
+pub data Answer : Type 0 where
+  -- with the number of the first check that catches the call
+  refused : ℕ → Answer
+  queued dropped : Answer
+  -- recovered, redundant or too late
+  repaired : Fate → Answer
+  -- `poll` and `poll_nack` where nothing is handed out or due
+  nothing : Answer
+  packet : Packet → Answer
+  -- how many numbers stand in the output
+  nack : ℕ → Answer
+  timeout : Opt → Answer
+  stats : OptRtxStats → Answer
+  highest : Opt → Answer
+
+-- ---- what an accepted call leaves
+
+unfoldable pub taken : Call → State → State
+taken (media now d) s = afterMedia now d s
+taken (repair now d) s = afterRepair now d s
+taken (poll now out) s = afterPoll now s
+taken (pollNack now out) s = afterPollNack now s
+taken (timeoutReceive now) s = s
+taken (timeoutNack now) s = s
+taken rtxStats s = s
+taken highestReceived s = s
+
+-- ---- what it answers
+
+unfoldable pub delayIn : RtpInboundQueueMode → Settings → ℕ
+delayIn Passthrough set = 0
+delayIn SortedQueue set = targetDelay set
+
+unfoldable pub packetOf : Queue → Entry → Packet
+packetOf q e =
+    record { pt = q .config .senders .pt; number = e .number % 2 ^ 16; timestamp = e .timestamp % 2 ^ 32; ssrc = q .config .senders .ssrc .0; marker = e .marker; arrival = e .arrival; delay = delayIn (q .config .settings .mode) (q .config .settings); size = length (e .payload) }
+
+unfoldable pub handed : Queue → List Entry → Answer
+handed q [] = nothing
+handed q (e ∷ es) = packet (packetOf q e)
+
+unfoldable pub nackAnswer : List ℕ → Answer
+nackAnswer [] = nothing
+nackAnswer (n ∷ ns) = nack (length (n ∷ ns))
+
+unfoldable pub answered : Call → State → Answer
+answered (media now d) s = cond (waits (mediaPlace s (mediaEntry now d (s .queue) .number))) queued dropped
+answered (repair now d) s = repaired (repairFate s (repairEntry d (s .queue) .number))
+answered (poll now out) s = handed (s .queue) (front now s (s .entries))
+answered (pollNack now out) s = nackAnswer (nackNumbers now s)
+answered (timeoutReceive now) s = timeout (receiveTimeout (s .queue .config .settings .mode) (s .queue .config .settings) (s .queue .last) (s .entries) now)
+answered (timeoutNack now) s = timeout (nackTimeout (s .queue .config .settings) (s .queue .rtx .rtt) now (s .gaps))
+answered rtxStats s = stats (figures (s .queue))
+answered highestReceived s = highest (highestOf (s .queue .last))
+
+-- ---- the lent output
+
+-- the payload of the entry that goes out, if one does
+unfoldable pub payloadOut : List Entry → List ℕ
+payloadOut [] = []
+payloadOut (e ∷ es) = e .payload
+
+unfoldable pub outputOf : Call → List ℕ
+outputOf (media now d) = []
+outputOf (repair now d) = []
+outputOf (poll now out) = out
+outputOf (pollNack now out) = out
+outputOf (timeoutReceive now) = []
+outputOf (timeoutNack now) = []
+outputOf rtxStats = []
+outputOf highestReceived = []
+
+-- "Output after the payload or the last NACK number keeps its bytes."
+unfoldable pub outputAfter : Call → State → List ℕ
+outputAfter (media now d) s = []
+outputAfter (repair now d) s = []
+outputAfter (poll now out) s = over (payloadOut (front now s (s .entries))) out
+outputAfter (pollNack now out) s = over (nackNumbers now s) out
+outputAfter (timeoutReceive now) s = []
+outputAfter (timeoutNack now) s = []
+outputAfter rtxStats s = []
+outputAfter highestReceived s = []

@@ -1,0 +1,11 @@
+-- What the queue is, from the bottom up: lists, records, the rules that queue and book share, the calls, the table of refusals, storage.
+pub mod Lists
+pub mod Records
+pub mod Rules
+pub mod Push
+pub mod Poll
+pub mod Valid
+pub mod Storage
+pub mod Calls
+pub mod Table
+pub mod Did

@@ -1,0 +1,135 @@
+-- 000's `poll`, `poll_nack`, the two timeouts and the figures; 01, "Hand-out" and "Gap".
+use mathlib.Core.Bool.{Bool, true, false, cond}
+use mathlib.Core.List.{List, [], _∷_, map}
+use Prim.Native.Nat.{ℕ, _+_, _-_, _%_, _^_}
+use lib.Dec.{leb}
+use lib.ListN.{length, drop}
+use Rattle.rtp.specs.Opt.{optMin}
+use Rattle.rtp.specs.declared.opt.Opt.{Opt}
+use Rattle.rtp.specs.declared.opt.Opt.the-variants.{None, Some}
+use Rattle.rtx_state.specs.declared.OptRtt.{OptRtt}
+use Rattle.rtx_state.specs.Repair.{rtxStats}
+use Rattle.stats.specs.declared.OptRtxStats.{OptRtxStats}
+use Rattle.stats.specs.declared.OptRtxStats.the-variants as OptRtxStats
+use Rattle.packet_loss.specs.Loss.{recordLost}
+use Rattle.config.specs.declared.RtpInboundQueueMode.{RtpInboundQueueMode}
+use Rattle.config.specs.declared.RtpInboundQueueMode.the-variants.{Passthrough, SortedQueue}
+use Rattle.config.specs.declared.Settings.{Settings}
+use Rattle.config.specs.Timings.{targetDelay}
+use Rattle.handout.specs.Limit.{maxTimestamp}
+use Rattle.handout.specs.Timeout.{timeoutReceive}
+use Rattle.model.specs.declared.LastReceived.{LastReceived}
+use Rattle.model.specs.declared.LastReceived.the-variants as LastReceived
+use Rattle.model.specs.declared.Counters.{Counters}
+use Rattle.model.specs.declared.Queue.{Queue}
+use Rattle.model.specs.Lists.{keep, leading, trailing}
+use Rattle.model.specs.Records.{Entry, Gap, State, gapNumbers, highestOf, withClock, withReturned, withCounters, withLoss}
+use Rattle.model.specs.Rules.{gapsBelow, gapsFrom, dueAt, due, nackDue, tried, rememberedAfter}
+
+unfoldable pub countLost : ℕ → Counters → Counters
+countLost n c = record { dropped = c .dropped; received = c .received; bytes = c .bytes; lost = c .lost + n }
+
+-- n numbers became lost
+unfoldable pub lose : ℕ → Queue → Queue
+lose n q = withLoss (withCounters q (countLost n (q .counters))) (recordLost (q .loss) n)
+
+-- ---- numbers given up
+
+-- "In `Passthrough`, the leading gaps NACKed at least max times become lost, first thing in every `poll_nack` and `poll`"
+unfoldable pub givenUp : Settings → RtpInboundQueueMode → List Gap → List Gap
+givenUp set Passthrough l = leading (tried (set .«max_nack_attempts»)) l
+givenUp set SortedQueue l = []
+
+unfoldable pub notGivenUp : Settings → RtpInboundQueueMode → List Gap → List Gap
+notGivenUp set Passthrough l = trailing (tried (set .«max_nack_attempts»)) l
+notGivenUp set SortedQueue l = l
+
+-- the clock, then `drain_lost`
+unfoldable pub drained : ℕ → State → State
+drained now s =
+    let set = s .queue .config .settings in
+    record {
+      queue = lose (length (givenUp set (set .mode) (s .gaps))) (withClock (s .queue) now);
+      entries = s .entries;
+      gaps = notGivenUp set (set .mode) (s .gaps);
+      remembered = s .remembered;
+    }
+
+-- ---- `poll`
+
+-- whether the limit has reached the timestamp; "a negative limit hands out nothing"
+unfoldable pub reaches : ℕ → Opt → Bool
+reaches timestamp None = false
+reaches timestamp (Some limit) = leb timestamp limit
+
+unfoldable pub ready : Queue → RtpInboundQueueMode → LastReceived → ℕ → Entry → Bool
+ready q Passthrough last now e = true
+ready q SortedQueue LastReceived.None now e = false
+ready q SortedQueue (LastReceived.Some r) now e =
+    let set = q .config .settings in
+    reaches (e .timestamp) (maxTimestamp (r .instant) (r .timestamp .0) (set .«clock_rate») (targetDelay set) now)
+
+-- the entry that goes out, if one does, before those that stay
+unfoldable pub front : ℕ → State → List Entry → List Entry
+front now s [] = []
+front now s (e ∷ es) = cond (ready (s .queue) (s .queue .config .settings .mode) (s .queue .last) now e) (e ∷ []) []
+
+-- "Gaps below the one handed out become lost" in sorted mode
+unfoldable pub lostBelow : RtpInboundQueueMode → ℕ → List Gap → List Gap
+lostBelow Passthrough n l = []
+lostBelow SortedQueue n l = gapsBelow n l
+
+unfoldable pub leftFrom : RtpInboundQueueMode → ℕ → List Gap → List Gap
+leftFrom Passthrough n l = l
+leftFrom SortedQueue n l = gapsFrom n l
+
+unfoldable pub handOut : List Entry → State → State
+handOut [] s = s
+handOut (e ∷ es) s =
+    let q = s .queue in
+    let mode = q .config .settings .mode in
+    let lost = lostBelow mode (e .number) (s .gaps) in
+    record {
+      queue = withReturned (lose (length lost) q) (e .number);
+      entries = drop 1 (s .entries);
+      gaps = leftFrom mode (e .number) (s .gaps);
+      remembered = rememberedAfter (q .config .senders .«has_rtx») lost (s .remembered);
+    }
+
+unfoldable pub afterPoll : ℕ → State → State
+afterPoll now s = handOut (front now s (s .entries)) (drained now s)
+
+-- ---- `poll_nack`
+
+-- the gaps for which a NACK goes out
+unfoldable pub dueGaps : ℕ → State → List Gap
+dueGaps now s = keep (due (s .queue .config .settings) (s .queue .rtx .rtt) now) (s .gaps)
+
+-- "The due numbers come out ascending by extended number, as 16 bits"
+unfoldable pub nackNumbers : ℕ → State → List ℕ
+nackNumbers now s = map (λ (g : Gap). g .number % 2 ^ 16) (dueGaps now (drained now s))
+
+unfoldable pub nackAll : ℕ → State → State
+nackAll now s =
+    record { queue = s .queue; entries = s .entries; gaps = nackDue (s .queue .config .settings) (s .queue .rtx .rtt) now (s .gaps); remembered = s .remembered }
+
+unfoldable pub afterPollNack : ℕ → State → State
+afterPollNack now s = nackAll now (drained now s)
+
+-- ---- calls that leave the session as it is
+
+unfoldable pub receiveTimeout : RtpInboundQueueMode → Settings → LastReceived → List Entry → ℕ → Opt
+receiveTimeout Passthrough set last [] now = None
+receiveTimeout Passthrough set last (e ∷ es) now = Some 0
+receiveTimeout SortedQueue set LastReceived.None l now = None
+receiveTimeout SortedQueue set (LastReceived.Some r) [] now = None
+receiveTimeout SortedQueue set (LastReceived.Some r) (e ∷ es) now =
+    Some (timeoutReceive (r .instant) (r .timestamp .0) (e .timestamp) (set .«clock_rate») (targetDelay set) now)
+
+-- "the next time": the least that is left until a gap is due
+unfoldable pub nackTimeout : Settings → OptRtt → ℕ → List Gap → Opt
+nackTimeout set rtt now [] = None
+nackTimeout set rtt now (g ∷ gs) = optMin (Some (dueAt set rtt g - now)) (nackTimeout set rtt now gs)
+
+unfoldable pub figures : Queue → OptRtxStats
+figures q = cond (q .config .senders .«has_rtx») (OptRtxStats.Some (rtxStats (q .rtx))) OptRtxStats.None

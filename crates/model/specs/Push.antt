@@ -1,0 +1,164 @@
+-- 000's `push` and `push_rtx`: what a media packet and a repair make of a session. The bytes are a datagram that was not refused.
+use mathlib.Core.Bool.{Bool, true, false, cond}
+use mathlib.Core.List.{List, [], _∷_}
+use Prim.Native.Nat.{ℕ, _+_}
+use lib.Dec.{leb, ltb}
+use lib.ListN.{length}
+use Rattle.rtp.specs.declared.opt.Opt.{Opt}
+use Rattle.rtp.specs.declared.opt.Opt.the-variants.{None, Some}
+use Rattle.rtp_packet.specs.Header.{sequenceNumber, timestamp, marker, payloadOf}
+use Rattle.rtp_packet.specs.Original.{originalNumber, originalPayload}
+use Rattle.rtx_state.specs.declared.RtxState.{RtxState}
+use Rattle.rtx_state.specs.declared.OptRtt.{OptRtt}
+use Rattle.rtx_state.specs.Repair.{recordInTime, recordRedundant, recordTooLate}
+use Rattle.jitter.specs.declared.Jitter.{Jitter}
+use Rattle.jitter.specs.Interarrival.{jitterUpdated}
+use Rattle.packet_loss.specs.Loss.{recordReceived, recordLost}
+use Rattle.config.specs.declared.RtpInboundQueueMode.{RtpInboundQueueMode}
+use Rattle.config.specs.declared.RtpInboundQueueMode.the-variants.{Passthrough, SortedQueue}
+use Rattle.model.specs.declared.LastReceived.{LastReceived}
+use Rattle.model.specs.declared.LastReceived.the-variants as LastReceived
+use Rattle.model.specs.declared.Counters.{Counters}
+use Rattle.model.specs.declared.Queue.{Queue}
+use Rattle.model.specs.Lists.{keep, some?}
+use Rattle.model.specs.Records.{Entry, Gap, Remembered, State, highestOf, lastTimestampOf, returnedOf, withClock, withLast, withReturned, withRtx, withCounters, withJitter, withLoss}
+use Rattle.model.specs.Rules.{extended, is, gapOf, without, gapsFrom, Place, first, near, far, fills, other, placeOf, waits, gapsAfter, rttAfterRepair, isOf, rttAfterLate, forgetFirst}
+
+-- ---- what both share
+
+unfoldable pub atOrBelow : ℕ → Opt → Bool
+atOrBelow n None = false
+atOrBelow n (Some m) = leb n m
+
+-- "in sorted mode nothing at or below the last returned number is" queued
+unfoldable pub passed : RtpInboundQueueMode → Opt → ℕ → Bool
+passed Passthrough returned n = false
+passed SortedQueue returned n = atOrBelow n returned
+
+-- the number and the timestamp of a packet, extended by those of the last media packet
+unfoldable pub extendedNumber : Queue → ℕ → ℕ
+extendedNumber q got = extended 16 (highestOf (q .last)) got
+
+unfoldable pub extendedTimestamp : Queue → ℕ → ℕ
+extendedTimestamp q got = extended 32 (lastTimestampOf (q .last)) got
+
+-- `insert_sorted`: before the first entry that is not below it
+unfoldable pub insertSorted : Entry → List Entry → List Entry
+insertSorted e [] = e ∷ []
+insertSorted e (x ∷ xs) = cond (leb (e .number) (x .number)) (e ∷ x ∷ xs) (x ∷ insertSorted e xs)
+
+-- ---- a media packet
+
+-- where the packet stands
+unfoldable pub mediaPlace : State → ℕ → Place
+mediaPlace s n =
+    cond (passed (s .queue .config .settings .mode) (returnedOf (s .queue .returned)) n) other (placeOf (highestOf (s .queue .last)) (s .gaps) n)
+
+-- "made in `push` even for a packet then dropped"
+unfoldable pub jitterAfter : ℕ → ℕ → LastReceived → Jitter → Jitter
+jitterAfter now ts LastReceived.None j = j
+jitterAfter now ts (LastReceived.Some r) j = jitterUpdated j now ts (r .instant) (r .timestamp .0)
+
+-- the clock and the jitter follow every packet
+unfoldable pub heard : ℕ → ℕ → Queue → Queue
+heard now ts q = withClock (withJitter q (jitterAfter now ts (q .last) (q .jitter))) now
+
+-- "forward progress only"
+unfoldable pub lastAfter : ℕ → ℕ → ℕ → Place → LastReceived → LastReceived
+lastAfter now ts n first l = LastReceived.Some (record { instant = now; timestamp = record { 0 = ts }; number = record { 0 = n } })
+lastAfter now ts n (near h) l = LastReceived.Some (record { instant = now; timestamp = record { 0 = ts }; number = record { 0 = n } })
+lastAfter now ts n (far h) l = LastReceived.Some (record { instant = now; timestamp = record { 0 = ts }; number = record { 0 = n } })
+lastAfter now ts n fills l = l
+lastAfter now ts n other l = l
+
+unfoldable pub countDropped : Counters → Counters
+countDropped c = record { dropped = c .dropped + 1; received = c .received; bytes = c .bytes; lost = c .lost }
+
+unfoldable pub countReceived : ℕ → Counters → Counters
+countReceived size c = record { dropped = c .dropped; received = c .received + 1; bytes = c .bytes + size; lost = c .lost }
+
+-- dropped: it moves no number
+unfoldable pub afterDropped : ℕ → ℕ → State → State
+afterDropped now ts s =
+    let q = heard now ts (s .queue) in
+    record { queue = withCounters q (countDropped (q .counters)); entries = s .entries; gaps = s .gaps; remembered = s .remembered }
+
+-- queued, before the depth is looked at
+unfoldable pub afterQueued : ℕ → Entry → Place → State → State
+afterQueued now e p s =
+    let q = heard now (e .timestamp) (s .queue) in
+    record {
+      queue = withLoss (withCounters (withLast q (lastAfter now (e .timestamp) (e .number) p (q .last))) (countReceived (length (e .payload)) (q .counters))) (recordReceived (q .loss));
+      entries = insertSorted e (s .entries);
+      gaps = gapsAfter now (e .number) p (s .gaps);
+      remembered = s .remembered;
+    }
+
+-- "the front one is pushed out: it counts as dropped, becomes the last returned, and missing numbers below it go uncounted"
+unfoldable pub frontOut : List Entry → State → State
+frontOut [] s = s
+frontOut (e ∷ es) s =
+    let q = s .queue in
+    record { queue = withReturned (withCounters q (countDropped (q .counters))) (e .number); entries = es; gaps = gapsFrom (e .number) (s .gaps); remembered = s .remembered }
+
+unfoldable pub overfull : State → Bool
+overfull s = ltb (s .queue .config .settings .«max_entries») (length (s .entries))
+
+-- "After a push that leaves more than D"
+unfoldable pub withinDepth : State → State
+withinDepth s = cond (overfull s) (frontOut (s .entries) s) s
+
+unfoldable pub mediaEntry : ℕ → List ℕ → Queue → Entry
+mediaEntry now d q =
+    record { arrival = Some now; timestamp = extendedTimestamp q (timestamp d); number = extendedNumber q (sequenceNumber d); marker = marker d; payload = payloadOf d }
+
+unfoldable pub afterMedia : ℕ → List ℕ → State → State
+afterMedia now d s =
+    let e = mediaEntry now d (s .queue) in
+    let p = mediaPlace s (e .number) in
+    cond (waits p) (withinDepth (afterQueued now e p s)) (afterDropped now (e .timestamp) s)
+
+-- ---- a repair
+
+-- "a repair is `recovered`, `redundant` or `too late`"
+pub data Fate : Type 0 where
+  tooLate recovered redundant : Fate
+
+unfoldable pub repairFate : State → ℕ → Fate
+repairFate s n =
+    cond (passed (s .queue .config .settings .mode) (returnedOf (s .queue .returned)) n) tooLate (cond (some? (is n) (s .gaps)) recovered redundant)
+
+-- RFC 4588: the payload begins with the original number; what follows is the original payload
+unfoldable pub repairEntry : List ℕ → Queue → Entry
+repairEntry d q =
+    record { arrival = None; timestamp = extendedTimestamp q (timestamp d); number = extendedNumber q (originalNumber (payloadOf d)); marker = marker d; payload = originalPayload (payloadOf d) }
+
+withRtt : OptRtt → RtxState → RtxState
+withRtt rtt r =
+    record { rtt = rtt; «received_in_time» = r .«received_in_time»; «received_too_late» = r .«received_too_late»; «received_redundant» = r .«received_redundant»; «bytes_received» = r .«bytes_received» }
+
+unfoldable pub afterFate : ℕ → Entry → Fate → State → State
+unfolding withRtt
+afterFate now e tooLate s =
+    let q = withClock (s .queue) now in
+    record {
+      queue = withRtx q (withRtt (rttAfterLate now (keep (isOf (e .number)) (s .remembered)) (q .rtx .rtt)) (recordTooLate (q .rtx)));
+      entries = s .entries;
+      gaps = s .gaps;
+      remembered = forgetFirst (e .number) (s .remembered);
+    }
+afterFate now e redundant s =
+    let q = withClock (s .queue) now in
+    record { queue = withRtx q (recordRedundant (q .rtx)); entries = s .entries; gaps = s .gaps; remembered = s .remembered }
+afterFate now e recovered s =
+    let q = withClock (s .queue) now in
+    record {
+      queue =
+          withLoss (withRtx q (withRtt (rttAfterRepair now (gapOf (e .number) (s .gaps)) (q .rtx .rtt)) (recordInTime (q .rtx) (length (e .payload))))) (recordLost (q .loss) 1);
+      entries = insertSorted e (s .entries);
+      gaps = without (e .number) (s .gaps);
+      remembered = s .remembered;
+    }
+
+unfoldable pub afterRepair : ℕ → List ℕ → State → State
+afterRepair now d s = let e = repairEntry d (s .queue) in afterFate now e (repairFate s (e .number)) s

@@ -1,0 +1,145 @@
+-- 01, "Numbers", "Gap", "Repair state" and "Hand-out": the rules that the queue and the book share. None of them looks at a session.
+use mathlib.Core.Bool.{Bool, true, false, cond, not}
+use mathlib.Core.List.{List, [], _∷_, _++_, map}
+use Prim.Native.Nat.{ℕ, suc, _+_, _-_, _*_, _^_}
+use lib.Dec.{leb, ltb, eqb}
+use lib.ListN.{length, drop}
+use Rattle.rtp.specs.Numbers.{guessed}
+use Rattle.rtp.specs.declared.opt.Opt.{Opt}
+use Rattle.rtp.specs.declared.opt.Opt.the-variants.{None, Some}
+use Rattle.rtx_state.specs.declared.OptRtt.{OptRtt}
+use Rattle.rtx_state.specs.RoundTrip.{sampledRtt}
+use Rattle.config.specs.declared.Settings.{Settings}
+use Rattle.config.specs.Timings.{resendDelayOf}
+use Rattle.model.specs.Lists.{following, keep, some?}
+use Rattle.model.specs.Records.{Gap, Remembered}
+
+-- ---- numbers
+
+-- "The first packet is extended with cycle 0."
+abbrev pub firstCycle : ℕ
+firstCycle = 0
+
+-- a number of w bits, extended by the reference, if there is one
+unfoldable pub extended : ℕ → Opt → ℕ → ℕ
+extended w None got = firstCycle * 2 ^ w + got
+extended w (Some reference) got = guessed w reference got
+
+-- ---- gaps
+
+-- "A forward step s of at most 1,000 opens s − 1 gaps" (001's MAX_GAP_SIZE)
+abbrev pub MAX-GAP-SIZE : ℕ
+MAX-GAP-SIZE = 1000
+
+unfoldable pub is : ℕ → Gap → Bool
+is n g = eqb (g .number) n
+
+unfoldable pub below : ℕ → Gap → Bool
+below n g = ltb (g .number) n
+
+-- the gap of the number n, if it is open, and the others
+unfoldable pub gapOf : ℕ → List Gap → List Gap
+gapOf n l = keep (is n) l
+
+unfoldable pub without : ℕ → List Gap → List Gap
+without n l = keep (λ (g : Gap). not (is n g)) l
+
+-- the gaps below n, and the others
+unfoldable pub gapsBelow : ℕ → List Gap → List Gap
+gapsBelow n l = keep (below n) l
+
+unfoldable pub gapsFrom : ℕ → List Gap → List Gap
+gapsFrom n l = keep (λ (g : Gap). not (below n g)) l
+
+-- Where a media number stands.
+pub data Place : Type 0 where
+  -- no media packet came before it
+  first : Place
+  -- above the highest number so far, by at most 1,000 or by more
+  near far : ℕ → Place
+  -- an open gap
+  fills : Place
+  -- any other
+  other : Place
+
+unfoldable pub placeOf : Opt → List Gap → ℕ → Place
+placeOf None gaps n = first
+placeOf (Some h) gaps n = cond (ltb h n) (cond (leb (n - h) MAX-GAP-SIZE) (near h) (far h)) (cond (some? (is n) gaps) fills other)
+
+-- the packet comes to wait
+unfoldable pub waits : Place → Bool
+waits first = true
+waits (near h) = true
+waits (far h) = true
+waits fills = true
+waits other = false
+
+-- the numbers between h and n
+unfoldable pub between : ℕ → ℕ → List ℕ
+between h n = following (suc h) (n - suc h)
+
+unfoldable pub fresh : ℕ → ℕ → Gap
+fresh now n = record { number = n; detected = now; nacks = 0; nackedAt = 0 }
+
+-- `report_received`: "a larger one clears every gap and opens none"
+unfoldable pub gapsAfter : ℕ → ℕ → Place → List Gap → List Gap
+gapsAfter now n first l = l
+gapsAfter now n (near h) l = l ++ map (fresh now) (between h n)
+gapsAfter now n (far h) l = []
+gapsAfter now n fills l = without n l
+gapsAfter now n other l = l
+
+-- ---- NACKs
+
+-- "detected + initial delay, or last NACK + resend delay"
+unfoldable pub dueAt : Settings → OptRtt → Gap → ℕ
+dueAt set rtt g = cond (eqb (g .nacks) 0) (g .detected + set .«initial_nack_delay») (g .nackedAt + resendDelayOf set rtt)
+
+unfoldable pub due : Settings → OptRtt → ℕ → Gap → Bool
+due set rtt now g = leb (dueAt set rtt g) now
+
+unfoldable pub nacked : ℕ → Gap → Gap
+nacked now g = record { number = g .number; detected = g .detected; nacks = suc (g .nacks); nackedAt = now }
+
+-- the gaps after a NACK for each that is due
+unfoldable pub nackDue : Settings → OptRtt → ℕ → List Gap → List Gap
+nackDue set rtt now l = map (λ (g : Gap). cond (due set rtt now g) (nacked now g) g) l
+
+-- NACKed at least max times
+unfoldable pub tried : ℕ → Gap → Bool
+tried max g = leb max (g .nacks)
+
+-- ---- the round trip
+
+-- "A gap NACKed just once yields a sample when its repair comes"
+unfoldable pub rttAfterRepair : ℕ → List Gap → OptRtt → OptRtt
+rttAfterRepair now [] rtt = rtt
+rttAfterRepair now (g ∷ gs) rtt = cond (eqb (g .nacks) 1) (sampledRtt rtt (now - g .nackedAt)) rtt
+
+-- "also too late if the number is still remembered", which it then no longer is
+unfoldable pub isOf : ℕ → Remembered → Bool
+isOf n r = eqb (r .number) n
+
+unfoldable pub rttAfterLate : ℕ → List Remembered → OptRtt → OptRtt
+rttAfterLate now [] rtt = rtt
+rttAfterLate now (r ∷ rs) rtt = sampledRtt rtt (now - r .nackedAt)
+
+unfoldable pub forgetFirst : ℕ → List Remembered → List Remembered
+forgetFirst n [] = []
+forgetFirst n (r ∷ rs) = cond (isOf n r) rs (r ∷ forgetFirst n rs)
+
+-- "up to 1,024 lost numbers NACKed just once are remembered, oldest dropped first" (002's MAX_LOST_NACKED)
+abbrev pub MAX-LOST-NACKED : ℕ
+MAX-LOST-NACKED = 1024
+
+unfoldable pub latest : List Remembered → List Remembered
+latest l = drop (length l - MAX-LOST-NACKED) l
+
+unfoldable pub remember : Gap → Remembered
+remember g = record { number = g .number; nackedAt = g .nackedAt }
+
+-- the gaps `lost` were given up; a session without RTX remembers none
+unfoldable pub rememberedAfter : Bool → List Gap → List Remembered → List Remembered
+unfolding latest
+rememberedAfter false lost l = l
+rememberedAfter true lost l = latest (l ++ map remember (keep (λ (g : Gap). eqb (g .nacks) 1) lost))

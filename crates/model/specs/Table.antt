@@ -1,0 +1,164 @@
+-- 01, "Where a call is turned back": the number of the first check that catches a call, or 0. "Checks run downwards within a call."
+use mathlib.Core.Bool.{Bool, true, false, cond, _&&_, _||_, not}
+use mathlib.Core.List.{List, [], _∷_, _++_}
+use Prim.Native.Nat.{ℕ, suc, _+_, _-_, _*_, _^_}
+use lib.Dec.{leb, ltb}
+use lib.ListN.{length}
+use Rattle.rtp.specs.declared.opt.Opt.{Opt}
+use Rattle.rtp.specs.declared.opt.Opt.the-variants.{None, Some}
+use Rattle.refusals.specs.Refusals.{SETTINGS, CLOCK, NO-RTX, NO-MEDIA, GAPS-FULL, ENTRIES-FULL, COUNT, OUTPUT, SESSION, orElse}
+use Rattle.durations.specs.Seconds.{largest}
+use Rattle.config.specs.declared.Settings.{Settings}
+use Rattle.config.specs.Valid.{settingsValid, sendersValid}
+use Rattle.rtp_packet.specs.Header.{payloadOf}
+use Rattle.rtp_packet.specs.Datagram.{LARGEST-PAYLOAD, LARGEST-REPAIR, datagramRefusal}
+use Rattle.rtp_packet.specs.Original.{originalRefusal}
+use Rattle.model.specs.declared.Config.{Config}
+use Rattle.model.specs.declared.LastReceived.{LastReceived}
+use Rattle.model.specs.declared.LastReceived.the-variants as LastReceived
+use Rattle.model.specs.declared.Queue.{Queue}
+use Rattle.model.specs.Lists.{some?}
+use Rattle.model.specs.Records.{Entry, Gap, State}
+use Rattle.model.specs.Rules.{Place, first, near, far, fills, other, waits}
+use Rattle.model.specs.Push.{mediaEntry, mediaPlace, afterQueued, overfull, Fate, tooLate, recovered, redundant, repairEntry, repairFate}
+use Rattle.model.specs.Poll.{givenUp, drained, front, lostBelow, dueGaps}
+use Rattle.model.specs.Valid.{sound}
+use Rattle.model.specs.Storage.{Storage, Stored, lengthsFit, entryPlaces, parse}
+use Rattle.model.specs.Calls.{Call, media, repair, poll, pollNack, timeoutReceive, timeoutNack, rtxStats, highestReceived}
+
+-- the number, where the test is true
+unfoldable pub refuseIf : Bool → ℕ → ℕ
+refuseIf t number = cond t number 0
+
+-- 1
+unfoldable pub configValid : Config → Bool
+configValid c = settingsValid (c .settings) && sendersValid (c .senders)
+
+-- 16
+unfoldable pub sessionSound : Stored → Bool
+sessionSound m =
+    let c = m .session .queue .config in
+    configValid c && (lengthsFit (c .settings) (m .storage) && sound (parse m))
+
+unfoldable pub sessionRefusal : Stored → ℕ
+sessionRefusal m = refuseIf (not (sessionSound m)) SESSION
+
+-- 15
+unfoldable pub outputRefusal : ℕ → List ℕ → ℕ
+outputRefusal needed out = refuseIf (ltb (length out) needed) OUTPUT
+
+-- 8
+unfoldable pub clockRefusal : Queue → ℕ → ℕ
+clockRefusal q now = refuseIf (ltb largest now || ltb now (q .clock)) CLOCK
+
+-- 9
+unfoldable pub rtxRefusal : Queue → ℕ
+rtxRefusal q = refuseIf (not (q .config .senders .«has_rtx»)) NO-RTX
+
+-- 10
+unfoldable pub noMedia : LastReceived → Bool
+noMedia LastReceived.None = true
+noMedia (LastReceived.Some r) = false
+
+unfoldable pub mediaFirstRefusal : Queue → ℕ
+mediaFirstRefusal q = refuseIf (noMedia (q .last)) NO-MEDIA
+
+-- 14: "an extended value or counter would pass 2^52 − 1": the values that the call works out, and the counters that it would raise
+unfoldable pub countRefusal : List ℕ → ℕ
+countRefusal values = refuseIf (some? (ltb largest) values) COUNT
+
+-- 14, "or a NACK count 2^32 − 1"
+unfoldable pub nackCountRefusal : List Gap → ℕ
+nackCountRefusal due = refuseIf (some? (λ (g : Gap). leb (2 ^ 32 - 1) (g .nacks)) due) COUNT
+
+-- ---- a media packet
+
+unfoldable pub mediaValues : ℕ → Entry → Place → State → List ℕ
+mediaValues now e p s =
+    let c = s .queue .counters in
+    let raised =
+    cond (waits p) ((c .received + 1) ∷ (c .bytes + length (e .payload)) ∷ cond (overfull (afterQueued now e p s)) ((c .dropped + 1) ∷ []) []) ((c .dropped + 1) ∷ []) in
+    e .timestamp ∷ e .number ∷ raised
+
+-- 12: "s from 2 to 1,000, packet would be queued, open gaps + s − 1 over G"
+unfoldable pub tooManyGaps : Settings → List Gap → ℕ → Place → Bool
+tooManyGaps set gaps n first = false
+tooManyGaps set gaps n (near h) = ltb (set .«max_gaps») (length gaps + ((n - h) - 1)) && leb 2 (n - h)
+tooManyGaps set gaps n (far h) = false
+tooManyGaps set gaps n fills = false
+tooManyGaps set gaps n other = false
+
+unfoldable pub mediaRefusal : ℕ → List ℕ → State → ℕ
+mediaRefusal now d s =
+    let q = s .queue in
+    let e = mediaEntry now d q in
+    let p = mediaPlace s (e .number) in
+    orElse (clockRefusal q now)
+    (orElse (datagramRefusal (q .config .senders .pt) (q .config .senders .ssrc .0) LARGEST-PAYLOAD d)
+    (orElse (countRefusal (mediaValues now e p s))
+    (refuseIf (tooManyGaps (q .config .settings) (s .gaps) (e .number) p) GAPS-FULL)))
+
+-- ---- a repair
+
+unfoldable pub fateValues : Entry → Fate → Queue → List ℕ
+fateValues e tooLate q = (q .rtx .«received_too_late» + 1) ∷ []
+fateValues e redundant q = (q .rtx .«received_redundant» + 1) ∷ []
+fateValues e recovered q = (q .rtx .«received_in_time» + 1) ∷ (q .rtx .«bytes_received» + length (e .payload)) ∷ []
+
+-- 13: "repair would be inserted with 2 · D entries held"
+unfoldable pub noPlace : State → Fate → Bool
+noPlace s tooLate = false
+noPlace s redundant = false
+noPlace s recovered = leb (entryPlaces (s .queue .config .settings)) (length (s .entries))
+
+unfoldable pub repairRefusal : ℕ → List ℕ → State → ℕ
+repairRefusal now d s =
+    let q = s .queue in
+    let e = repairEntry d q in
+    let f = repairFate s (e .number) in
+    orElse (clockRefusal q now)
+    (orElse (rtxRefusal q)
+    (orElse (datagramRefusal (q .config .senders .«rtx_pt») (q .config .senders .«rtx_ssrc» .0) LARGEST-REPAIR d)
+    (orElse (mediaFirstRefusal q)
+    (orElse (originalRefusal (payloadOf d))
+    (orElse (countRefusal (e .timestamp ∷ e .number ∷ fateValues e f q)) (refuseIf (noPlace s f) ENTRIES-FULL))))))
+
+-- ---- `poll` and `poll_nack`
+
+-- the gaps that become lost as the entry at the front of the list goes out, if there is one: those given up, and those below it
+unfoldable pub lostWith : ℕ → State → List Entry → List Gap
+lostWith now s [] = givenUp (s .queue .config .settings) (s .queue .config .settings .mode) (s .gaps)
+lostWith now s (e ∷ es) =
+    givenUp (s .queue .config .settings) (s .queue .config .settings .mode) (s .gaps)
+    ++ lostBelow (s .queue .config .settings .mode) (e .number) (drained now s .gaps)
+
+unfoldable pub pollRefusal : ℕ → List ℕ → State → ℕ
+pollRefusal now out s =
+    orElse (outputRefusal LARGEST-PAYLOAD out)
+    (orElse (clockRefusal (s .queue) now) (countRefusal ((s .queue .counters .lost + length (lostWith now s (front now s (s .entries)))) ∷ [])))
+
+unfoldable pub pollNackRefusal : ℕ → List ℕ → State → ℕ
+pollNackRefusal now out s =
+    let set = s .queue .config .settings in
+    orElse (outputRefusal (set .«max_gaps») out)
+    (orElse (clockRefusal (s .queue) now)
+    (orElse (countRefusal ((s .queue .counters .lost + length (givenUp set (set .mode) (s .gaps))) ∷ [])) (nackCountRefusal (dueGaps now (drained now s)))))
+
+-- ---- any call
+
+unfoldable pub callRefusal : Call → State → ℕ
+callRefusal (media now d) s = mediaRefusal now d s
+callRefusal (repair now d) s = repairRefusal now d s
+callRefusal (poll now out) s = pollRefusal now out s
+callRefusal (pollNack now out) s = pollNackRefusal now out s
+callRefusal (timeoutReceive now) s = clockRefusal (s .queue) now
+callRefusal (timeoutNack now) s = clockRefusal (s .queue) now
+callRefusal rtxStats s = 0
+callRefusal highestReceived s = 0
+
+unfoldable pub refusal : Call → Stored → ℕ
+refusal c m = orElse (sessionRefusal m) (callRefusal c (parse m))
+
+-- "Opening checks 1, then 16 for lengths alone."
+unfoldable pub openingRefusal : Config → Storage → ℕ
+openingRefusal c t = orElse (refuseIf (not (configValid c)) SETTINGS) (refuseIf (not (lengthsFit (c .settings) t)) SESSION)

@@ -1,0 +1,61 @@
+// The records of the queue (000) as they go in and come back by value, beside the storage that the caller lends. No code: specs/
+// holds what the queue is, for the contracts and for the theorem over every list of calls alike.
+use config::Senders;
+use config::Settings;
+use jitter::Jitter;
+use packet_loss::PacketLoss;
+use rtp::ExtendedRtpTimestamp;
+use rtp::ExtendedSequenceNumber;
+use rtx_state::RtxState;
+
+// What the opening fixes.
+pub struct Config {
+    pub settings: Settings,
+    pub senders: Senders,
+}
+
+// The media packet with the highest number so far.
+pub struct Received {
+    pub instant: u64,
+    pub timestamp: ExtendedRtpTimestamp,
+    pub number: ExtendedSequenceNumber,
+}
+
+pub enum LastReceived {
+    None,
+    Some(Received),
+}
+
+// The number that `poll` returned last, or that was pushed out last.
+pub enum LastReturned {
+    None,
+    Some(ExtendedSequenceNumber),
+}
+
+pub struct Counters {
+    pub dropped: u64,
+    pub received: u64,
+    pub bytes: u64,
+    pub lost: u64,
+}
+
+// The Rust's `Queue` without its three lists.
+pub struct Queue {
+    pub config: Config,
+    // The latest accepted instant, in nanoseconds.
+    pub clock: u64,
+    pub last: LastReceived,
+    pub returned: LastReturned,
+    pub rtx: RtxState,
+    pub counters: Counters,
+    pub jitter: Jitter,
+    pub loss: PacketLoss,
+}
+
+// The session: the queue, and how many places of the lent storage each of its lists fills.
+pub struct Session {
+    pub queue: Queue,
+    pub entries: usize,
+    pub gaps: usize,
+    pub remembered: usize,
+}

@@ -1,0 +1,2 @@
+-- The specifications of `refusals`.
+pub mod Refusals

@@ -1,0 +1,56 @@
+-- 01, "Where a call is turned back": the numbers of the table, by the names that the code has for them, and how checks follow each other.
+use mathlib.Core.Bool.{cond}
+use Prim.Native.Nat.{ℕ}
+use lib.Dec.{eqb}
+
+abbrev pub SETTINGS : ℕ
+SETTINGS = 1
+
+abbrev pub TRUNCATED : ℕ
+TRUNCATED = 2
+
+abbrev pub VERSION : ℕ
+VERSION = 3
+
+abbrev pub PADDING : ℕ
+PADDING = 4
+
+abbrev pub PAYLOAD-TOO-LARGE : ℕ
+PAYLOAD-TOO-LARGE = 5
+
+abbrev pub PAYLOAD-TYPE : ℕ
+PAYLOAD-TYPE = 6
+
+abbrev pub SSRC : ℕ
+SSRC = 7
+
+abbrev pub CLOCK : ℕ
+CLOCK = 8
+
+abbrev pub NO-RTX : ℕ
+NO-RTX = 9
+
+abbrev pub NO-MEDIA : ℕ
+NO-MEDIA = 10
+
+abbrev pub NO-ORIGINAL-NUMBER : ℕ
+NO-ORIGINAL-NUMBER = 11
+
+abbrev pub GAPS-FULL : ℕ
+GAPS-FULL = 12
+
+abbrev pub ENTRIES-FULL : ℕ
+ENTRIES-FULL = 13
+
+abbrev pub COUNT : ℕ
+COUNT = 14
+
+abbrev pub OUTPUT : ℕ
+OUTPUT = 15
+
+abbrev pub SESSION : ℕ
+SESSION = 16
+
+-- "Checks run downwards within a call": the second refusal counts only where the first is 0, which is none
+unfoldable pub orElse : ℕ → ℕ → ℕ
+orElse first second = cond (eqb first 0) second first

@@ -1,0 +1,64 @@
+// The numbers under which a call is refused: the table "Where a call is turned back" of docs/01-scope.md, each with its words there.
+// A refused call returns its number only; session, clock and every lent buffer are unchanged. 0 is no refusal.
+ghost use mathlib.Core.Path.{_≡_};
+ghost use Rattle.refusals.specs.Refusals.{orElse};
+
+// Opening: clock rate outside 1 to 1,000,000; D outside 1 to 1,024; G outside 999 to 4,096; a duration over 60,000,000,000; max
+// attempts outside 1 to 255; a payload type over 127.
+pub const SETTINGS: u64 = 1;
+
+// Datagram: under 12 bytes; after check 3 also: under its CSRCs and extension.
+pub const TRUNCATED: u64 = 2;
+
+// Datagram: version not 2.
+pub const VERSION: u64 = 3;
+
+// Datagram: padding bit with no byte after the header, or with count 0 or more than the bytes after the header.
+pub const PADDING: u64 = 4;
+
+// Datagram: payload over 320 bytes, repair over 322.
+pub const PAYLOAD_TOO_LARGE: u64 = 5;
+
+// Datagram: payload type not the session's (media or RTX).
+pub const PAYLOAD_TYPE: u64 = 6;
+
+// Datagram: SSRC not the session's (media or RTX).
+pub const SSRC: u64 = 7;
+
+// Clock: instant above 2^52 − 1, or before the latest accepted one.
+pub const CLOCK: u64 = 8;
+
+// Repair: session without RTX.
+pub const NO_RTX: u64 = 9;
+
+// Repair: no media packet yet.
+pub const NO_MEDIA: u64 = 10;
+
+// Repair: payload under 2 bytes.
+pub const NO_ORIGINAL_NUMBER: u64 = 11;
+
+// Gaps: s from 2 to 1,000, packet would be queued, open gaps + s − 1 over G.
+pub const GAPS_FULL: u64 = 12;
+
+// Entries: repair would be inserted with 2 · D entries held.
+pub const ENTRIES_FULL: u64 = 13;
+
+// Counts: an extended value or counter would pass 2^52 − 1, or a NACK count 2^32 − 1.
+pub const COUNT: u64 = 14;
+
+// Output: `poll`: lent buffer under 320 bytes; `poll_nack`: list under G numbers.
+pub const OUTPUT: u64 = 15;
+
+// Session: storage lengths not those of D and G; a setting that 1 refuses; more than 2 · D entries, G gaps or 1,024 remembered;
+// entries or gaps not strictly ascending; an entry's or gap's number in both, above the highest, or in sorted mode not above the
+// last returned; a gap at the highest or a last returned above it; an entry, gap or last returned before any media packet; a
+// payload over 320; an instant after the clock's; an extended value, counter, srtt or variation over 2^52 − 1; the jitter
+// record's clock rate not the setting's, jitter not from 0 to the clock rate, loss not from 0 to 1.
+pub const SESSION: u64 = 16;
+
+// The first of two refusals: "Checks run downwards within a call."
+pub fn or_else(first: u64, second: u64) -> u64
+    ensures { λ r. ⌜ r ≡ orElse first second ⌝ }
+{
+    if first == 0 { second } else { first }
+}

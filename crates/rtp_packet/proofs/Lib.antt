@@ -1,0 +1,7 @@
+-- Laws of the datagram reader's definitions, for the crates above.
+pub mod BigEndian
+pub mod Bounds
+pub mod Refused
+pub mod Alike
+pub mod Flip
+pub mod Answers

@@ -1,0 +1,5 @@
+-- The specifications of `rtp_packet`.
+pub mod Header
+pub mod Datagram
+pub mod Original
+pub mod OneBit

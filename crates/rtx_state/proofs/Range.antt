@@ -1,0 +1,116 @@
+-- srtt and variation stay at most 2 ^ 52 - 1 with samples that are, since each update is a mean of two such numbers, cut. The resend delay of such an estimate is below 2 ^ 54.
+use mathlib.Core.Path.{_≡_, refl, sym, subst}
+use mathlib.Core.Logic.{inl}
+use mathlib.Core.Bool.{Bool, false, _&&_}
+use Prim.Native.Nat.{ℕ, _+_, _-_, _*_, _/_, _≤_, _<_, _^_}
+use native.Mathlib.Nat.{le-refl, lt-of-le-of-lt}
+use native.Mathlib.Omega.{arith}
+use lib.IntN.{pos, negsuc}
+use lib.Dec.{T, leb, leb→le, le→leb, lit≤, lit<}
+use lib.Ieee.{Float, fin, binary64, ofBits, add, mul, le, lt}
+use lib.Ieee.Fits.{and-l, and-r, and-i}
+use Rattle.float_laws.proofs.Upto.{Upto, whole-to, add-upto, mul-upto}
+use Rattle.rtp.specs.Numbers.{apart}
+use Rattle.durations.specs.Seconds.{largest, giga, asSecsF64, zero64, limit}
+use Rattle.durations.proofs.Bound.{secs-upto, nanos-le, upto-in}
+use Rattle.rtx_state.specs.RoundTrip.{three-halves, fromFirstSample, rttUpdated, sampledRtt, nackResendDelay, rttInRange, optRttInRange}
+use Rattle.rtx_state.specs.Repair.{rtxInRange}
+use Rattle.rtx_state.specs.declared.RtxState.{RtxState}
+use Rattle.rtx_state.specs.declared.RtxRtt.{RtxRtt}
+use Rattle.rtx_state.specs.declared.OptRtt.{OptRtt}
+use Rattle.rtx_state.specs.declared.OptRtt.the-variants.{None, Some}
+
+-- ---- the test, and what it says
+pub of-test : (e : RtxRtt) → T (rttInRange e) → (e .srtt ≤ largest) × (e .variation ≤ largest)
+unfolding rttInRange
+of-test e h = (leb→le (e .srtt) largest (and-l (leb (e .srtt) largest) (leb (e .variation) largest) h), leb→le (e .variation) largest (and-r (leb (e .srtt) largest) (leb (e .variation) largest) h))
+
+to-test : (e : RtxRtt) → e .srtt ≤ largest → e .variation ≤ largest → T (rttInRange e)
+unfolding rttInRange
+to-test e h k = and-i (leb (e .srtt) largest) (leb (e .variation) largest) (le→leb (e .srtt) largest h) (le→leb (e .variation) largest k)
+
+-- ---- the range is kept
+pub first-in : (r : ℕ) → r ≤ largest → T (rttInRange (fromFirstSample r))
+first-in r h = to-test (fromFirstSample r) h (omega arith)
+
+pub updated-in : (e : RtxRtt) (r : ℕ) → T (rttInRange e) → r ≤ largest → T (rttInRange (rttUpdated e r))
+unfolding rttUpdated apart
+updated-in e r h k = let b = of-test e h in to-test (rttUpdated e r) (omega arith) (omega arith)
+
+pub sampled-in : (e : OptRtt) (r : ℕ) → T (optRttInRange e) → r ≤ largest → T (optRttInRange (sampledRtt e r))
+unfolding sampledRtt optRttInRange
+sampled-in None r h k = first-in r k
+sampled-in (Some e) r h k = updated-in e r h k
+
+-- ---- the resend delay
+three-halves-is : three-halves ≡ fin false 3 (negsuc 0)
+unfolding ofBits
+three-halves-is = refl
+
+abbrev delay : RtxRtt → Float
+delay e = add binary64 (asSecsF64 (e .srtt)) (mul binary64 (asSecsF64 (e .variation)) three-halves)
+
+delay-upto : (e : RtxRtt) → T (rttInRange e) → Upto (delay e) 11259000 1
+delay-upto e h =
+    let b = of-test e h in
+    let a : Upto (asSecsF64 (e .srtt)) 4503600 1 = secs-upto (e .srtt) 4503599 (omega arith) (omega arith) (lit< tt) in
+    let v : Upto (asSecsF64 (e .variation)) 4503600 1 = secs-upto (e .variation) 4503599 (omega arith) (omega arith) (lit< tt) in
+    let c : Upto (mul binary64 (asSecsF64 (e .variation)) three-halves) 6755400 1 =
+    subst (λ (x : Float). Upto (mul binary64 (asSecsF64 (e .variation)) x) 6755400 1) (sym three-halves-is)
+    (mul-upto binary64 (asSecsF64 (e .variation)) (fin false 3 (negsuc 0)) 4503600 1 3 2 6755400 1 6755400 1 (lit< tt) (lit< tt) (lit< tt) (whole-to binary64 6755400 (lit≤ tt)) v (inl refl, le-refl _) (lit≤ tt)) in
+    add-upto binary64 (asSecsF64 (e .srtt)) (mul binary64 (asSecsF64 (e .variation)) three-halves) 4503600 1 6755400 1 11259000 1 11259000 1 (lit< tt) (lit< tt) (lit< tt) (whole-to binary64 11259000 (lit≤ tt)) a c (lit≤ tt)
+
+-- what `nearest_nanos` asks
+pub delay-in : (e : RtxRtt) → T (rttInRange e) → T (le zero64 (delay e)) × T (lt (delay e) limit)
+delay-in e h = upto-in (delay e) 11259000 (lit< tt) (delay-upto e h)
+
+pub delay-lt : (e : RtxRtt) → T (rttInRange e) → nackResendDelay e < 2 ^ 54
+unfolding nackResendDelay
+delay-lt e h = lt-of-le-of-lt (nanos-le (delay e) 11259000 (delay-upto e h)) (lit< tt)
+
+-- ---- the state with its counters
+pub record Counted (s : RtxState) : Type 0 where
+  pub rtt : T (optRttInRange (s .rtt))
+  pub in-time : s .«received_in_time» ≤ largest
+  pub too-late : s .«received_too_late» ≤ largest
+  pub redundant : s .«received_redundant» ≤ largest
+  pub bytes : s .«bytes_received» ≤ largest
+
+module _ (s : RtxState) where
+  abbrev a : Bool
+  a = optRttInRange (s .rtt)
+
+  abbrev b : Bool
+  b = leb (s .«received_in_time») largest
+
+  abbrev c : Bool
+  c = leb (s .«received_too_late») largest
+
+  abbrev d : Bool
+  d = leb (s .«received_redundant») largest
+
+  abbrev e : Bool
+  e = leb (s .«bytes_received») largest
+
+  pub counted : T (rtxInRange s) → Counted s
+  unfolding rtxInRange
+  counted t =
+      let t4 = and-l (a && b && c && d) e t in
+      let t3 = and-l (a && b && c) d t4 in
+      let t2 = and-l (a && b) c t3 in
+      record {
+        rtt = and-l a b t2;
+        in-time = leb→le (s .«received_in_time») largest (and-r a b t2);
+        too-late = leb→le (s .«received_too_late») largest (and-r (a && b) c t3);
+        redundant = leb→le (s .«received_redundant») largest (and-r (a && b && c) d t4);
+        bytes = leb→le (s .«bytes_received») largest (and-r (a && b && c && d) e t);
+      }
+
+  pub in-range : Counted s → T (rtxInRange s)
+  unfolding rtxInRange
+  in-range k =
+      and-i (a && b && c && d) e
+      (and-i (a && b && c) d
+      (and-i (a && b) c (and-i a b (k .rtt) (le→leb (s .«received_in_time») largest (k .in-time))) (le→leb (s .«received_too_late») largest (k .too-late)))
+      (le→leb (s .«received_redundant») largest (k .redundant)))
+      (le→leb (s .«bytes_received») largest (k .bytes))
