@@ -2,57 +2,59 @@
 -- that one `omega` joins the laws of all lists that a call moves.
 use mathlib.Core.Path.{_≡_, refl, sym, ap, ap₂, _∙_, subst}
 use mathlib.Core.Logic.{_⊎_, inl, inr, _≢_}
-use mathlib.Core.Bool.{Bool, true, false, cond, not}
+use mathlib.Core.Bool.{cond, not}
 use mathlib.Core.List.{List, [], _∷_, _++_}
 use Prim.Native.Nat.{ℕ, zero, suc, _+_, _≤_, _<_}
 use native.Mathlib.Omega.{arith}
 use lib.Dec.{T, leb, eqb, leb→le, nleb→lt, eqb→eq, eqb-refl}
 use Rattle.model.specs.Lists.{following}
-use Rattle.model.proofs.Lists.{by-cases, eqb-no}
+use Rattle.model.proofs.Lists.{by-cases, eqb-no, no-eqb}
 use Rattle.book.specs.Sorted.{putIn, putAllIn, sort}
-use Rattle.book.proofs.Cases.{cond-yes, either, by-zero}
+use Rattle.book.proofs.Cases.{cond-yes, cond-no, either, by-zero}
 
 -- ---- counting
 
-one : Bool → ℕ
-one b = cond b 1 0
-
 -- 1 where the two are equal, else 0
 pub same : ℕ → ℕ → ℕ
-unfolding one
-same n x = one (eqb n x)
+same n x = cond (eqb n x) 1 0
 
 pub same-yes : (n x : ℕ) → n ≡ x → same n x ≡ 1
-unfolding same one
+unfolding same
 same-yes n x e = cond-yes (eqb n x) 1 0 (subst (λ (y : ℕ). T (eqb n y)) e (eqb-refl n))
 
 pub same-no : (n x : ℕ) → n ≢ x → same n x ≡ 0
-unfolding same one
-same-no n x ne = by-cases (λ k. k ≡ 0) (eqb n x) (λ t. absurd (ne (eqb→eq n x t))) (λ t. refl)
+unfolding same
+same-no n x ne = cond-no (eqb n x) 1 0 (no-eqb n x ne)
 
--- the one place where a number is compared
-pub data Alike (n x : ℕ) : Type 0 where
-  alike : n ≡ x → same n x ≡ 1 → Alike n x
-  unlike : n ≢ x → same n x ≡ 0 → Alike n x
-
-pub compare-them : (n x : ℕ) → Alike n x
-compare-them n x = go (either (eqb n x))
-  where
-    go : T (eqb n x) ⊎ T (not (eqb n x)) → Alike n x
-    go (inl t) = alike (eqb→eq n x t) (same-yes n x (eqb→eq n x t))
-    go (inr t) = unlike (eqb-no n x t) (same-no n x (eqb-no n x t))
-
--- the same, as two arms
+-- the one place where two numbers are compared
 pub by-compare : {P : Type 0} (n x : ℕ) → (n ≡ x → same n x ≡ 1 → P) → (n ≢ x → same n x ≡ 0 → P) → P
-by-compare {P} n x f g = go (compare-them n x)
+by-compare {P} n x f g = go (either (eqb n x))
   where
-    go : Alike n x → P
-    go (alike e s) = f e s
-    go (unlike ne s) = g ne s
+    go : T (eqb n x) ⊎ T (not (eqb n x)) → P
+    go (inl t) = f (eqb→eq n x t) (same-yes n x (eqb→eq n x t))
+    go (inr t) = g (eqb-no n x t) (same-no n x (eqb-no n x t))
 
 unfoldable pub count : ℕ → List ℕ → ℕ
 count n [] = 0
 count n (x ∷ xs) = same n x + count n xs
+
+pub count-one : (n x : ℕ) → count n (x ∷ []) ≡ same n x
+unfolding count
+count-one n x = omega arith
+
+pub count-cons : (n x : ℕ) (l : List ℕ) → count n (x ∷ l) ≡ same n x + count n l
+unfolding count
+count-cons n x l = refl
+
+pub count-nil : (n : ℕ) → count n [] ≡ 0
+unfolding count
+count-nil n = refl
+
+-- a list in which nothing is counted is empty
+pub none-counted : (l : List ℕ) → ((n : ℕ) → count n l ≡ 0) → l ≡ []
+unfolding count
+none-counted [] h = refl
+none-counted (x ∷ xs) h = absurd (omega (arith, h x, same-yes x x refl))
 
 pub count-append : (n : ℕ) (xs ys : List ℕ) → count n (xs ++ ys) ≡ count n xs + count n ys
 unfolding count
@@ -78,7 +80,7 @@ count-sort n xs = omega (arith, count-putAllIn n xs [])
 -- ---- order
 
 -- every number of the list is at least a
-unfoldable pub From : ℕ → List ℕ → Type 0
+unfoldable From : ℕ → List ℕ → Type 0
 From a l = (n : ℕ) → 1 ≤ count n l → a ≤ n
 
 unfoldable pub Sorted : List ℕ → Type 0
@@ -94,7 +96,7 @@ from-putIn : (a x : ℕ) (l : List ℕ) → a ≤ x → From a l → From a (put
 unfolding From count
 from-putIn a x l h f n c = from-cons a x l h f n (omega (arith, count-putIn n x l))
 
-pub sorted-putIn : (x : ℕ) (l : List ℕ) → Sorted l → Sorted (putIn x l)
+sorted-putIn : (x : ℕ) (l : List ℕ) → Sorted l → Sorted (putIn x l)
 unfolding Sorted putIn From count
 sorted-putIn x [] s = ((λ n c. omega arith), tt)
 sorted-putIn x (y ∷ ys) s =
@@ -118,26 +120,11 @@ unfolding Sorted From count
 sorted-same [] [] s t h = refl
 sorted-same [] (y ∷ ys) s t h = absurd (omega (arith, h y, same-yes y y refl))
 sorted-same (x ∷ xs) [] s t h = absurd (omega (arith, h x, same-yes x x refl))
-sorted-same (x ∷ xs) (y ∷ ys) s t h = go (sorted-same xs ys (s .1) (t .1)) (compare-them x y) (compare-them y x)
-  where
-    go : (((n : ℕ) → count n xs ≡ count n ys) → xs ≡ ys) → Alike x y → Alike y x → x ∷ xs ≡ y ∷ ys
-    go rest (alike e a) b = ap₂ _∷_ e (rest (λ n. omega (arith, h n, ap (same n) e)))
-    go rest (unlike ne a) (alike e b) = absurd (ne (sym e))
-    go rest (unlike ne a) (unlike ne′ b) =
-        absurd (ne (omega (arith, s .0 y (omega (arith, h y, same-yes y y refl)), t .0 x (omega (arith, h x, same-yes x x refl)))))
-
-pub sorted-append : (xs ys : List ℕ) → Sorted xs → Sorted ys → ((m n : ℕ) → 1 ≤ count m xs → 1 ≤ count n ys → m ≤ n) → Sorted (xs ++ ys)
-unfolding Sorted From count
-sorted-append [] ys s t h = t
-sorted-append (x ∷ xs) ys s t h = (front, sorted-append xs ys (s .1) t (λ m n p q. h m n (omega arith) q))
-  where
-    front : From x (xs ++ ys)
-    front n c =
-        by-zero (count n xs) (λ z. h x n (omega (arith, same-yes x x refl)) (omega (arith, count-append n xs ys))) (λ p. s .0 n p)
-
-pub sorted-one : (x : ℕ) → Sorted (x ∷ [])
-unfolding Sorted From count
-sorted-one x = ((λ n c. omega arith), tt)
+sorted-same (x ∷ xs) (y ∷ ys) s t h =
+    by-compare x y (λ e q. ap₂ _∷_ e (sorted-same xs ys (s .1) (t .1) (λ n. omega (arith, h n, ap (same n) e))))
+    (λ ne q.
+    absurd
+    (ne (omega (arith, s .0 y (omega (arith, h y, same-yes y y refl, same-no y x (λ e. ne (sym e)))), t .0 x (omega (arith, h x, same-yes x x refl))))))
 
 -- ---- a run of numbers
 
@@ -147,7 +134,7 @@ following-append a zero k = rw (native.Mathlib.Nat.zero-add, native.Mathlib.Nat.
 following-append a (suc j) k =
     rw native.Mathlib.Nat.suc-add (ap (λ (l : List ℕ). a ∷ l) (following-append (suc a) j k ∙ ap (λ (x : ℕ). following (suc a) j ++ following x k) (omega arith)))
 
-pub count-following : (n a k : ℕ) → 1 ≤ count n (following a k) → (a ≤ n) × (n < a + k)
+count-following : (n a k : ℕ) → 1 ≤ count n (following a k) → (a ≤ n) × (n < a + k)
 unfolding following count
 count-following n a zero c = absurd (omega arith)
 count-following n a (suc k) c = by-compare n a (λ e s. omega arith) (λ ne s. let ih = count-following n (suc a) k (omega arith) in omega arith)
@@ -163,23 +150,3 @@ pub sorted-following : (a k : ℕ) → Sorted (following a k)
 unfolding following Sorted From
 sorted-following a zero = tt
 sorted-following a (suc k) = ((λ n c. omega (arith, count-following n (suc a) k c)), sorted-following (suc a) k)
-
--- ---- a sum of two lists counted alike
-
-pub count-one : (n x : ℕ) → count n (x ∷ []) ≡ same n x
-unfolding count
-count-one n x = omega arith
-
-pub count-cons : (n x : ℕ) (l : List ℕ) → count n (x ∷ l) ≡ same n x + count n l
-unfolding count
-count-cons n x l = refl
-
-pub count-nil : (n : ℕ) → count n [] ≡ 0
-unfolding count
-count-nil n = refl
-
--- a list in which nothing is counted is empty
-pub none-counted : (l : List ℕ) → ((n : ℕ) → count n l ≡ 0) → l ≡ []
-unfolding count
-none-counted [] h = refl
-none-counted (x ∷ xs) h = absurd (omega (arith, h x, same-yes x x refl))

@@ -1,16 +1,16 @@
 -- Parts of a list of gaps, by counting their numbers: a test parts the list in two, so nothing is gained or lost.
 use mathlib.Core.Path.{_≡_, refl, sym, ap, _∙_}
 use mathlib.Core.Logic.{_≢_}
-use mathlib.Core.Bool.{Bool, true, false, cond, not, _&&_}
+use mathlib.Core.Bool.{Bool, true, false, cond, not}
 use mathlib.Core.List.{List, [], _∷_, _++_, map}
-use Prim.Native.Nat.{ℕ, _+_, _≤_, _<_}
+use Prim.Native.Nat.{ℕ, _+_, _≤_}
 use native.Mathlib.Omega.{arith}
-use lib.Dec.{T, ltb, eqb, ltb→lt, eqb→eq}
+use lib.Dec.{T, eqb, eqb→eq}
 use Rattle.rtx_state.specs.declared.OptRtt.{OptRtt}
 use Rattle.config.specs.declared.RtpInboundQueueMode.{RtpInboundQueueMode}
 use Rattle.config.specs.declared.RtpInboundQueueMode.the-variants.{Passthrough, SortedQueue}
 use Rattle.config.specs.declared.Settings.{Settings}
-use Rattle.model.specs.Lists.{keep, leading, trailing, some?, every?}
+use Rattle.model.specs.Lists.{keep, leading, trailing, some?}
 use Rattle.model.specs.Records.{Gap, gapNumbers}
 use Rattle.model.specs.Rules.{is, below, without, gapsBelow, gapsFrom, fresh, due, nacked, nackDue, tried}
 use Rattle.model.specs.Poll.{givenUp, notGivenUp, lostBelow, leftFrom}
@@ -58,19 +58,7 @@ module _ (p : Gap → Bool) where
       go true ih = omega arith
       go false ih = omega arith
 
-pub count-kept : (p : Gap → Bool) (n : ℕ) (l : List Gap) → count n (gapNumbers (keep p l)) ≤ count n (gapNumbers l)
-count-kept p n l = omega (arith, count-keep p n l)
-
 -- the gaps below w, and the others
-pub kept-below : (w n : ℕ) (l : List Gap) → 1 ≤ count n (gapNumbers (gapsBelow w l)) → n < w
-unfolding gapsBelow keep below count
-kept-below w n [] c = absurd (omega arith)
-kept-below w n (g ∷ gs) c = go (ltb (g .number) w) (ltb→lt (g .number) w) (kept-below w n gs) c
-  where
-    go : (b : Bool) → (T b → g .number < w) → (1 ≤ count n (gapNumbers (gapsBelow w gs)) → n < w) → 1 ≤ count n (gapNumbers (cond b (g ∷ gapsBelow w gs) (gapsBelow w gs))) → n < w
-    go true lt ih c = by-compare n (g .number) (λ e s. omega (arith, lt tt)) (λ ne s. ih (omega arith))
-    go false lt ih c = ih c
-
 pub count-below : (w n : ℕ) (l : List Gap) → count n (gapNumbers (gapsBelow w l)) + count n (gapNumbers (gapsFrom w l)) ≡ count n (gapNumbers l)
 unfolding gapsBelow gapsFrom
 count-below w n l = count-keep (below w) n l

@@ -1,6 +1,7 @@
 -- Check 16 as facts, which every accepted call keeps; then demand 3, from the bottom up: counting, parts of a list of gaps, the book alone,
 -- session and book together, the theorem.
 pub mod Sound
+pub mod SoundTest
 pub mod SoundLists
 pub mod SoundQueue
 pub mod SoundPush

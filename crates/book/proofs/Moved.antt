@@ -1,25 +1,22 @@
 -- What an accepted call moves: the numbers handed out and lost, the count of lost ones and the last returned number. Only `poll` hands out, only
 -- `poll` and `poll_nack` lose, and only a media packet forgets.
-use mathlib.Core.Path.{_≡_, refl, sym, ap, _∙_}
+use mathlib.Core.Path.{_≡_, refl, sym, _∙_}
 use mathlib.Core.Logic.{_⊎_, inl, inr}
-use mathlib.Core.Bool.{Bool, true, false, cond, not, _&&_}
+use mathlib.Core.Bool.{Bool, true, false, cond}
 use mathlib.Core.List.{List, [], _∷_, _++_, map, append-nil, append-assoc}
-use Prim.Native.Nat.{ℕ, _+_, _-_, _%_, _^_, _<_}
+use Prim.Native.Nat.{ℕ, _+_, _-_, _%_, _^_}
 use native.Mathlib.Omega.{arith}
-use lib.Dec.{T, leb, ltb, nleb→lt}
-use lib.ListN.{length, length-append, length-map, drop}
-use Rattle.rtp.specs.declared.opt.Opt.{Opt}
-use Rattle.rtp.specs.declared.opt.Opt.the-variants.{None, Some}
+use lib.Dec.{leb, ltb, nleb→lt}
+use lib.ListN.{length, length-append, length-map}
 use Rattle.rtp_packet.specs.Header.{sequenceNumber, payloadOf}
 use Rattle.rtp_packet.specs.Original.{originalNumber}
 use Rattle.config.specs.declared.RtpInboundQueueMode.{RtpInboundQueueMode}
 use Rattle.model.specs.declared.Config.{Config}
-use Rattle.model.specs.declared.Queue.{Queue}
 use Rattle.model.specs.Lists.{some?}
 use Rattle.model.specs.Records.{Entry, Gap, State, entryNumbers, gapNumbers, returnedOf}
-use Rattle.model.specs.Rules.{is, Place, first, near, far, fills, other, placeOf, waits, MAX-GAP-SIZE}
+use Rattle.model.specs.Rules.{is, Place, placeOf, waits, MAX-GAP-SIZE}
 use Rattle.model.specs.Push as P
-use Rattle.model.specs.Push.{passed, insertSorted, mediaEntry, mediaPlace, heard, countDropped, countReceived, afterQueued, afterDropped, frontOut, afterMedia, Fate, tooLate, recovered, redundant, repairEntry, repairFate, afterFate, afterRepair}
+use Rattle.model.specs.Push.{insertSorted, mediaEntry, mediaPlace, heard, countDropped, countReceived, afterQueued, afterDropped, frontOut, afterMedia, Fate, tooLate, recovered, redundant, repairEntry, repairFate, afterFate, afterRepair}
 use Rattle.model.specs.Poll.{givenUp, lostBelow, lose, countLost, drained, ready, front, handOut, afterPoll, afterPollNack}
 use Rattle.model.specs.Poll as Q
 use Rattle.model.specs.Calls.{Call, media, repair, poll, pollNack, timeoutReceive, timeoutNack, rtxStats, highestReceived, queued, dropped, packetOf, handed, nackAnswer, taken, answered}
@@ -27,7 +24,8 @@ use Rattle.model.proofs.Lists.{by-cases, Each, each-first, each-imp, each-inser
 use Rattle.book.specs.Book as B
 use Rattle.book.specs.Book.{Heard, refused, accepted, Span, none, fromTo, Book, arrive, forgottenBy, pushOut, overfull, withinDepth, onMedia, recover, onRepair, giveUp, takeLowest, onPoll, read, enter}
 use Rattle.book.specs.Claim.{hear, given, Forgets, step-over, push-out, ForgetsBy, by-media}
-use Rattle.book.proofs.Sound.{Ahead, ListsOf, ahead-of}
+use Rattle.book.proofs.Sound.{Ahead, ListsOf}
+use Rattle.book.proofs.SoundPush.{waiting-stands}
 use Rattle.book.proofs.Past.{PastOf, past-advance, past-hand, past-forget}
 use Rattle.book.proofs.Same.{Same, beside, by-same, out?, hear-media, hear-poll, hear-nack}
 
@@ -93,13 +91,12 @@ repair-counts now x redundant s = refl
 -- ---- `poll`
 
 module _ (now : ℕ) (s : State) (b : Book) where
+  abbrev gone : List Gap
+  gone = givenUp (s .queue .config .settings) (s .queue .config .settings .mode) (s .gaps)
+
   drained-moves : Moved s (beside s b) (drained now s) (giveUp (s .queue .config) (beside s b)) []
   unfolding drained giveUp lose countLost
-  drained-moves =
-      record { handed = sym (append-nil (b .handed)); newly = gapNumbers gone; lost = refl; counted = rw length-map refl }
-    where
-      gone : List Gap
-      gone = givenUp (s .queue .config .settings) (s .queue .config .settings .mode) (s .gaps)
+  drained-moves = record { handed = sym (append-nil (b .handed)); newly = gapNumbers gone; lost = refl; counted = rw length-map refl }
 
   out-moves : (es : List Entry)
       → Moved s (beside s b) (handOut (front now s es) (drained now s)) (cond (out? (front now s es)) (takeLowest (s .queue .config) (entryNumbers es) (giveUp (s .queue .config) (beside s b))) (giveUp (s .queue .config) (beside s b)))
@@ -117,9 +114,6 @@ module _ (now : ℕ) (s : State) (b : Book) where
       })
       (λ t. drained-moves)
     where
-      gone : List Gap
-      gone = givenUp (s .queue .config .settings) (s .queue .config .settings .mode) (s .gaps)
-
       passed-by : List Gap
       passed-by = lostBelow (s .queue .config .settings .mode) (x .number) (drained now s .gaps)
 
@@ -186,13 +180,7 @@ pub moved-taken : (k : Call) {c : Config} {s : State} {b : Book} → Same c s b 
 moved-taken k {c} {s} {b} same =
     by-same (λ (c : Config) (b : Book). Moved s b (taken k s) (enter c k (hear (answered k s)) b) (outOf k s)) same (moved-beside k s b)
 
--- ---- the last returned number
-
--- a packet that comes to wait was not passed
-waits-ahead : (b : Bool) (p : Place) → T (waits (cond b other p)) → T (not b)
-unfolding waits
-waits-ahead true p t = t
-waits-ahead false p t = tt
+-- ---- the last returned number moves on, past what goes out
 
 module _ (s : State) (out : List ℕ) (l : ListsOf s) (past : PastOf (s .queue .config .settings .mode) out s) where
   abbrev mode : RtpInboundQueueMode
@@ -211,7 +199,7 @@ module _ (s : State) (out : List ℕ) (l : ListsOf s) (past : PastOf (s .queue .
   entries-above = each-imp (λ x h. h .ahead) (l .entries-in)
 
   media-past : (now : ℕ) (d : List ℕ) → PastOf mode out (afterMedia now d s)
-  unfolding afterMedia P.withinDepth afterQueued afterDropped heard mediaPlace
+  unfolding afterMedia P.withinDepth afterQueued afterDropped heard
   media-past now d =
       let x : Entry = mediaEntry now d (s .queue) in
       let p : Place = mediaPlace s (x .number) in
@@ -220,7 +208,7 @@ module _ (s : State) (out : List ℕ) (l : ListsOf s) (past : PastOf (s .queue .
       by-cases (PastOf mode out) (P.overfull (afterQueued now x p s))
       (λ u.
       frontOut-past (insertSorted x (s .entries)) (afterQueued now x p s)
-      (each-insert x (ahead-of mode (returnedOf (s .queue .returned)) (x .number) (waits-ahead (passed mode (returnedOf (s .queue .returned)) (x .number)) _ t)) entries-above) refl refl)
+      (each-insert x (waiting-stands s (x .number) t .0) entries-above) refl refl)
       (λ u. past))
       (λ t. past)
 
@@ -243,21 +231,21 @@ module _ (s : State) (out : List ℕ) (l : ListsOf s) (past : PastOf (s .queue .
       goes : List Entry → Type 0
       goes l = PastOf mode (out ++ entryNumbers l) (handOut l (drained now s))
 
-  past-beside : (k : Call) → PastOf mode (out ++ outOf k s) (taken k s)
+  past-call : (k : Call) → PastOf mode (out ++ outOf k s) (taken k s)
   unfolding taken outOf afterRepair afterPoll afterPollNack Q.nackAll drained lose
-  past-beside (media now d) = rw append-nil (media-past now d)
-  past-beside (repair now d) = rw append-nil (repair-past now (repairEntry d (s .queue)) (repairFate s (repairEntry d (s .queue) .number)))
-  past-beside (poll now lent) = poll-past now (s .entries) entries-above
-  past-beside (pollNack now lent) = rw append-nil past
-  past-beside (timeoutReceive now) = rw append-nil past
-  past-beside (timeoutNack now) = rw append-nil past
-  past-beside rtxStats = rw append-nil past
-  past-beside highestReceived = rw append-nil past
+  past-call (media now d) = rw append-nil (media-past now d)
+  past-call (repair now d) = rw append-nil (repair-past now (repairEntry d (s .queue)) (repairFate s (repairEntry d (s .queue) .number)))
+  past-call (poll now lent) = poll-past now (s .entries) entries-above
+  past-call (pollNack now lent) = rw append-nil past
+  past-call (timeoutReceive now) = rw append-nil past
+  past-call (timeoutNack now) = rw append-nil past
+  past-call rtxStats = rw append-nil past
+  past-call highestReceived = rw append-nil past
 
 pub past-taken : (k : Call) {c : Config} {s : State} {b : Book} → Same c s b → ListsOf s → PastOf (c .settings .mode) (b .handed) s → PastOf (c .settings .mode) (enter c k (hear (answered k s)) b .handed) (taken k s)
 past-taken k {c} {s} {b} same f =
     by-same (λ (c : Config) (b : Book). PastOf (c .settings .mode) (b .handed) s → PastOf (c .settings .mode) (enter c k (hear (answered k s)) b .handed) (taken k s)) same
-    (λ p. rw (moved-beside k s b .handed) (past-beside s (b .handed) f p k))
+    (λ p. rw (moved-beside k s b .handed) (past-call s (b .handed) f p k))
 
 -- ---- forgetting
 

@@ -3,10 +3,10 @@
 use mathlib.Core.Path.{_≡_, refl, sym, ap, subst}
 use mathlib.Core.Logic.{_⊎_, inl, inr}
 use mathlib.Core.Bool.{Bool, true, false, cond, not}
-use mathlib.Core.List.{List, [], _∷_, map}
-use Prim.Native.Nat.{ℕ, _-_, _≤_, _<_}
+use mathlib.Core.List.{List, [], _∷_}
+use Prim.Native.Nat.{ℕ, _-_}
 use native.Mathlib.Omega.{arith}
-use lib.Dec.{T, T-not, leb, ltb, eqb}
+use lib.Dec.{T, T-not, leb, ltb}
 use lib.ListN.{length, length-map, drop}
 use Rattle.rtp.specs.declared.opt.Opt.{Opt}
 use Rattle.rtp.specs.declared.opt.Opt.the-variants.{None, Some}
@@ -18,18 +18,18 @@ use Rattle.model.specs.declared.Config.{Config}
 use Rattle.model.specs.declared.Queue.{Queue}
 use Rattle.model.specs.declared.LastReceived.{LastReceived}
 use Rattle.model.specs.declared.LastReceived.the-variants as LastReceived
-use Rattle.model.specs.Lists.{keep, some?}
+use Rattle.model.specs.Lists.{some?}
 use Rattle.model.specs.Records.{Entry, Gap, Remembered, State, entryNumbers, highestOf, returnedOf}
-use Rattle.model.specs.Rules.{extended, is, Place, first, near, far, fills, other, placeOf, waits, isOf, rttAfterLate, forgetFirst, MAX-GAP-SIZE}
+use Rattle.model.specs.Rules.{extended, is, Place, placeOf, waits, rttAfterLate, MAX-GAP-SIZE}
 use Rattle.model.specs.Push as P
-use Rattle.model.specs.Push.{passed, insertSorted, extendedNumber, mediaEntry, mediaPlace, heard, lastAfter, afterQueued, afterDropped, frontOut, afterMedia, repairEntry, repairFate, afterFate, afterRepair}
+use Rattle.model.specs.Push.{passed, insertSorted, extendedNumber, mediaEntry, heard, lastAfter, afterQueued, afterDropped, frontOut, afterMedia, repairEntry, repairFate, afterFate, afterRepair}
 use Rattle.model.specs.Poll as Q
-use Rattle.model.specs.Poll.{drained, lose, countLost, front, ready, handOut, afterPoll, afterPollNack}
-use Rattle.model.specs.Calls.{Call, media, repair, poll, pollNack, timeoutReceive, timeoutNack, rtxStats, highestReceived, Answer, queued, dropped, repaired, nothing, packet, nackAnswer, handed, taken, answered}
+use Rattle.model.specs.Poll.{drained, lose, front, ready, handOut, afterPoll, afterPollNack}
+use Rattle.model.specs.Calls.{Call, media, repair, poll, pollNack, timeoutReceive, timeoutNack, rtxStats, highestReceived, queued, dropped, nackAnswer, handed, taken, answered}
 use Rattle.model.proofs.Lists.{by-cases}
 use Rattle.book.specs.Sorted.{putIn}
 use Rattle.book.specs.Book as B
-use Rattle.book.specs.Book.{Heard, accepted, Span, none, fromTo, Book, spanAfter, arrive, pushOut, onMedia, recover, tooLate, onRepair, giveUp, takeLowest, onPoll, enter}
+use Rattle.book.specs.Book.{accepted, Span, none, fromTo, Book, spanAfter, arrive, pushOut, onMedia, recover, tooLate, onRepair, giveUp, takeLowest, onPoll, enter}
 use Rattle.book.specs.Claim.{hear}
 use Rattle.book.proofs.Sound.{ListsOf, ahead-to}
 use Rattle.book.proofs.Cases.{by-cases₂, is-true, is-false, either}
@@ -153,7 +153,7 @@ module _ (now : ℕ) (s : State) (b : Book) (e : highestOf (s .queue .last) ≡ 
           (cond (out? l) (takeLowest (s .queue .config) (entryNumbers (x ∷ es)) (giveUp (s .queue .config) (beside s b))) (giveUp (s .queue .config) (beside s b)))
 
 same-nackAll : (now : ℕ) {c : Config} {s : State} {b : Book} → Same c s b → Same c (Q.nackAll now s) (B.nackAll c now b)
-unfolding Q.nackAll B.nackAll
+unfolding Q.nackAll B.nackAll Q.estimateOf
 same-nackAll now {c} {s} {b} same =
     by-same (λ (c : Config) (b : Book). Same c (Q.nackAll now s) (B.nackAll c now b)) same
     (record { config = refl; entries = refl; gaps = refl; highest = same .highest; estimate = refl; remembered = refl })

@@ -1,82 +1,30 @@
--- What check 16 says of a session, as facts: taken once out of the test, and put back into it once.
-use mathlib.Core.Path.{_≡_, refl, sym, subst}
+-- What check 16 says of a session, as facts: records that name each of them, and each test of a number with the fact that it stands for.
 use mathlib.Core.Logic.{_≢_}
-use mathlib.Core.Bool.{Bool, true, false, not, _&&_}
-use mathlib.Core.List.{List, [], _∷_, map}
+use mathlib.Core.Bool.{not}
+use mathlib.Core.List.{List, _∷_, map}
 use Prim.Native.Nat.{ℕ, _*_, _≤_, _<_}
 use native.Mathlib.Omega.{arith}
-use lib.Dec.{T, leb, ltb, leb→le, le→leb, nleb→lt, ltb→lt, lt→ltb, not-T}
-use lib.Ieee.Fits.{and-l, and-r, and-i}
+use lib.Dec.{T, leb, leb→le, le→leb, nleb→lt, ltb→lt, lt→ltb, not-T}
 use lib.ListN.{length}
-use Rattle.words.specs.Order.{ascends}
 use Rattle.rtp.specs.declared.opt.Opt.{Opt}
 use Rattle.rtp.specs.declared.opt.Opt.the-variants.{None, Some}
 use Rattle.durations.specs.Seconds.{largest}
 use Rattle.rtp_packet.specs.Datagram.{LARGEST-PAYLOAD}
-use Rattle.rtx_state.specs.Repair.{rtxInRange}
 use Rattle.rtx_state.specs.RoundTrip.{optRttInRange}
 use Rattle.rtx_state.specs.declared.RtxState.{RtxState}
 use Rattle.jitter.specs.Interarrival.{jitterInRange}
 use Rattle.packet_loss.specs.Loss.{lossInRange}
 use Rattle.config.specs.declared.RtpInboundQueueMode.{RtpInboundQueueMode}
 use Rattle.config.specs.declared.RtpInboundQueueMode.the-variants.{Passthrough, SortedQueue}
-use Rattle.config.specs.Valid.{within, longest, settingsValid, sendersValid}
-use Rattle.model.specs.declared.Config.{Config}
 use Rattle.model.specs.declared.Counters.{Counters}
 use Rattle.model.specs.declared.Queue.{Queue}
-use Rattle.model.specs.Lists.{some?, every?}
-use Rattle.model.specs.Records.{Entry, Gap, Remembered, State, entryNumbers, gapNumbers, highestOf, returnedOf}
-use Rattle.model.specs.Rules.{is, MAX-LOST-NACKED}
+use Rattle.model.specs.Records.{Entry, Gap, Remembered, State, highestOf, returnedOf}
+use Rattle.model.specs.Rules.{MAX-LOST-NACKED}
 use Rattle.model.specs.Push.{atOrBelow, passed}
-use Rattle.model.specs.Valid.{atMost, under, notPassed, byClock, entrySound, gapSound, rememberedSound, lastSound, returnedSound, countersSound, queueSound, countsFit, sound}
+use Rattle.model.specs.Valid.{atMost, under, byClock, lastSound, returnedSound}
 use Rattle.model.specs.Table.{configValid}
 use Rattle.book.specs.Sorted.{AllAbove, Ascending}
-use Rattle.model.proofs.Laid.{Canonical}
-use Rattle.model.proofs.Lists.{Each, none, more, each-imp, each-both, each-of-every, every-of-each, Rising, empty, above, rising-of-ascends, ascends-of-rising, apart-of-not-some, not-some-of-apart}
-
-
--- ---- a chain of tests
-
-unfoldable allOf : Bool → List Bool → Bool
-allOf a [] = a
-allOf a (b ∷ bs) = a && allOf b bs
-
-unfoldable Parts : Bool → List Bool → Type 0
-Parts a [] = T a
-Parts a (b ∷ bs) = T a × Parts b bs
-
-parts : (a : Bool) (bs : List Bool) → T (allOf a bs) → Parts a bs
-unfolding allOf Parts
-parts a [] t = t
-parts a (b ∷ bs) t = (and-l a (allOf b bs) t, parts b bs (and-r a (allOf b bs) t))
-
-whole : (a : Bool) (bs : List Bool) → Parts a bs → T (allOf a bs)
-unfolding allOf Parts
-whole a [] t = t
-whole a (b ∷ bs) (t, u) = and-i a (allOf b bs) t (whole b bs u)
-
--- the same where the chain is grouped to the left
-unfoldable allLeft : Bool → List Bool → Bool
-allLeft a [] = a
-allLeft a (b ∷ bs) = allLeft (a && b) bs
-
-left : (a : Bool) (bs : List Bool) → T (allLeft a bs) → Parts a bs
-unfolding allLeft Parts
-left a [] t = t
-left a (b ∷ bs) t = split bs (left (a && b) bs t)
-  where
-    split : (bs : List Bool) → Parts (a && b) bs → T a × Parts b bs
-    split [] t = (and-l a b t, and-r a b t)
-    split (c ∷ cs) (t, u) = (and-l a b t, (and-r a b t, u))
-
-left-whole : (a : Bool) (bs : List Bool) → Parts a bs → T (allLeft a bs)
-unfolding allLeft Parts
-left-whole a [] t = t
-left-whole a (b ∷ bs) (t, u) = left-whole (a && b) bs (join bs u)
-  where
-    join : (bs : List Bool) → Parts b bs → Parts (a && b) bs
-    join [] u = and-i a b t u
-    join (c ∷ cs) (u, v) = (and-i a b t u, v)
+use Rattle.model.proofs.Lists.{Each, none, more, Rising, empty, above}
 
 -- ---- numbers and instants
 
@@ -105,22 +53,22 @@ unfoldable pub By : ℕ → Opt → Type 0
 By clock None = Unit {0}
 By clock (Some i) = i ≤ clock
 
-reached-of : (h : Opt) (n : ℕ) → T (atMost h n) → Reached h n
+pub reached-of : (h : Opt) (n : ℕ) → T (atMost h n) → Reached h n
 unfolding atMost Reached
 reached-of None n t = t
 reached-of (Some h) n t = leb→le n h t
 
-reached-to : (h : Opt) (n : ℕ) → Reached h n → T (atMost h n)
+pub reached-to : (h : Opt) (n : ℕ) → Reached h n → T (atMost h n)
 unfolding atMost Reached
 reached-to None n t = t
 reached-to (Some h) n t = le→leb n h t
 
-under-of : (h : Opt) (n : ℕ) → T (under h n) → Under h n
+pub under-of : (h : Opt) (n : ℕ) → T (under h n) → Under h n
 unfolding under Under
 under-of None n t = t
 under-of (Some h) n t = ltb→lt n h t
 
-under-to : (h : Opt) (n : ℕ) → Under h n → T (under h n)
+pub under-to : (h : Opt) (n : ℕ) → Under h n → T (under h n)
 unfolding under Under
 under-to None n t = t
 under-to (Some h) n t = lt→ltb n h t
@@ -137,22 +85,22 @@ ahead-to Passthrough r n t = tt
 ahead-to SortedQueue None n t = tt
 ahead-to SortedQueue (Some m) n t = not-T (leb n m) (λ u. absurd (omega (arith, leb→le n m u)))
 
-returned-of : (h r : Opt) → T (returnedSound h r) → Returned h r
+pub returned-of : (h r : Opt) → T (returnedSound h r) → Returned h r
 unfolding returnedSound Returned
 returned-of h None t = tt
 returned-of h (Some n) t = reached-of h n t
 
-returned-to : (h r : Opt) → Returned h r → T (returnedSound h r)
+pub returned-to : (h r : Opt) → Returned h r → T (returnedSound h r)
 unfolding returnedSound Returned
 returned-to h None t = tt
 returned-to h (Some n) t = reached-to h n t
 
-by-of : (clock : ℕ) (i : Opt) → T (byClock clock i) → By clock i
+pub by-of : (clock : ℕ) (i : Opt) → T (byClock clock i) → By clock i
 unfolding byClock By
 by-of clock None t = tt
 by-of clock (Some i) t = leb→le i clock t
 
-by-to : (clock : ℕ) (i : Opt) → By clock i → T (byClock clock i)
+pub by-to : (clock : ℕ) (i : Opt) → By clock i → T (byClock clock i)
 unfolding byClock By
 by-to clock None t = tt
 by-to clock (Some i) t = le→leb i clock t
@@ -165,8 +113,6 @@ module _ (clock : ℕ) (highest : Opt) (mode : RtpInboundQueueMode) (returned : 
     pub ahead : Ahead mode returned (g .number)
     pub detected-by : g .detected ≤ clock
     pub nacked-by : g .nackedAt ≤ clock
-    -- as every gap that is read from storage
-    pub canonical : Canonical g
 
   pub record EntryIn (e : Entry) : Type 0 where
     pub reached : Reached highest (e .number)
@@ -215,6 +161,7 @@ pub record QueueIn (q : Queue) : Type 0 where
   pub jitter-in : T (jitterInRange (q .config .settings .«clock_rate») (q .jitter))
   pub loss-in : T (lossInRange (q .loss))
 
+-- the records find places
 pub record Fits (s : State) : Type 0 where
   pub entries-fit : length (s .entries) ≤ 2 * s .queue .config .settings .«max_entries»
   pub gaps-fit : length (s .gaps) ≤ s .queue .config .settings .«max_gaps»
@@ -223,200 +170,11 @@ pub record Fits (s : State) : Type 0 where
 abbrev pub ListsOf : State → Type 0
 ListsOf s = ListsIn (s .queue .clock) (highestOf (s .queue .last)) (s .queue .config .settings .mode) (returnedOf (s .queue .returned)) (s .gaps) (s .entries) (s .remembered)
 
+-- all that it says, but for the lengths of the storage
 pub record Sound (s : State) : Type 0 where
   pub fits : Fits s
   pub queue-in : QueueIn (s .queue)
   pub lists-in : ListsOf s
-
--- ---- from the test, and back
-
-abbrev counterTests : Counters → List Bool
-counterTests c = leb (c .received) largest ∷ leb (c .bytes) largest ∷ leb (c .lost) largest ∷ []
-
-counters-of : (c : Counters) → T (countersSound c) → CountersIn c
-unfolding countersSound allOf Parts
-counters-of c t =
-    let p = parts (leb (c .dropped) largest) (counterTests c) t in
-    record { dropped-fits = leb→le _ _ (p .0); received-fits = leb→le _ _ (p .1 .0); bytes-fit = leb→le _ _ (p .1 .1 .0); lost-fits = leb→le _ _ (p .1 .1 .1) }
-
-counters-to : (c : Counters) → CountersIn c → T (countersSound c)
-unfolding countersSound allOf Parts
-counters-to c h =
-    whole (leb (c .dropped) largest) (counterTests c) (le→leb _ _ (h .dropped-fits), (le→leb _ _ (h .received-fits), (le→leb _ _ (h .bytes-fit), le→leb _ _ (h .lost-fits))))
-
-abbrev rtxTests : RtxState → List Bool
-rtxTests r =
-    leb (r .«received_in_time») largest
-    ∷ leb (r .«received_too_late») largest
-    ∷ leb (r .«received_redundant») largest
-    ∷ leb (r .«bytes_received») largest
-    ∷ []
-
-rtx-of : (r : RtxState) → T (rtxInRange r) → RtxIn r
-unfolding rtxInRange allLeft Parts
-rtx-of r t =
-    let p = left (optRttInRange (r .rtt)) (rtxTests r) t in
-    record { rtt-in = p .0; in-time-fits = leb→le _ _ (p .1 .0); too-late-fits = leb→le _ _ (p .1 .1 .0); redundant-fits = leb→le _ _ (p .1 .1 .1 .0); bytes-fit = leb→le _ _ (p .1 .1 .1 .1) }
-
-rtx-to : (r : RtxState) → RtxIn r → T (rtxInRange r)
-unfolding rtxInRange allLeft Parts
-rtx-to r h =
-    left-whole (optRttInRange (r .rtt)) (rtxTests r)
-    (h .rtt-in, (le→leb _ _ (h .in-time-fits), (le→leb _ _ (h .too-late-fits), (le→leb _ _ (h .redundant-fits), le→leb _ _ (h .bytes-fit)))))
-
-module _ (q : Queue) where
-  abbrev highest : Opt
-  highest = highestOf (q .last)
-
-  abbrev mode : RtpInboundQueueMode
-  mode = q .config .settings .mode
-
-  abbrev returned : Opt
-  returned = returnedOf (q .returned)
-
-  abbrev gapTests : Gap → List Bool
-  gapTests g = notPassed q (g .number) ∷ leb (g .detected) (q .clock) ∷ leb (g .nackedAt) (q .clock) ∷ []
-
-  gap-of : (g : Gap) → T (gapSound q g) → Canonical g → GapIn (q .clock) highest mode returned g
-  unfolding gapSound notPassed allOf Parts
-  gap-of g t c =
-      let p = parts (under highest (g .number)) (gapTests g) t in
-      record { under = under-of _ _ (p .0); ahead = ahead-of _ _ _ (p .1 .0); detected-by = leb→le _ _ (p .1 .1 .0); nacked-by = leb→le _ _ (p .1 .1 .1); canonical = c }
-
-  gap-to : (g : Gap) → GapIn (q .clock) highest mode returned g → T (gapSound q g)
-  unfolding gapSound notPassed allOf Parts
-  gap-to g h =
-      whole (under highest (g .number)) (gapTests g) (under-to _ _ (h .under), (ahead-to _ _ _ (h .ahead), (le→leb _ _ (h .detected-by), le→leb _ _ (h .nacked-by))))
-
-  abbrev entryTests : List Gap → Entry → List Bool
-  entryTests gaps e =
-      notPassed q (e .number)
-      ∷ not (some? (is (e .number)) gaps)
-      ∷ leb (e .timestamp) largest
-      ∷ byClock (q .clock) (e .arrival)
-      ∷ leb (length (e .payload)) LARGEST-PAYLOAD
-      ∷ []
-
-  entry-of : (gaps : List Gap) (e : Entry) → T (entrySound q gaps e) → EntryIn (q .clock) highest mode returned e × Apart gaps (e .number)
-  unfolding entrySound notPassed allOf Parts
-  entry-of gaps e t =
-      let p = parts (atMost highest (e .number)) (entryTests gaps e) t in
-      (record { reached = reached-of _ _ (p .0); ahead = ahead-of _ _ _ (p .1 .0); timestamp-fits = leb→le _ _ (p .1 .1 .1 .0); came-by = by-of _ _ (p .1 .1 .1 .1 .0); payload-fits = leb→le _ _ (p .1 .1 .1 .1 .1) }, apart-of-not-some (e .number) gaps (p .1 .1 .0))
-
-  entry-to : (gaps : List Gap) (e : Entry) → EntryIn (q .clock) highest mode returned e × Apart gaps (e .number) → T (entrySound q gaps e)
-  unfolding entrySound notPassed allOf Parts
-  entry-to gaps e (h, a) =
-      whole (atMost highest (e .number)) (entryTests gaps e)
-      (reached-to _ _ (h .reached), (ahead-to _ _ _ (h .ahead), (not-some-of-apart (e .number) gaps a, (le→leb _ _ (h .timestamp-fits), (by-to _ _ (h .came-by), le→leb _ _ (h .payload-fits))))))
-
-  remembered-of : (r : Remembered) → T (rememberedSound q r) → RememberedIn (q .clock) r
-  unfolding rememberedSound allOf Parts
-  remembered-of r t =
-      let p = parts (leb (r .number) largest) (leb (r .nackedAt) (q .clock) ∷ []) t in
-      record { number-fits = leb→le _ _ (p .0); nacked-by = leb→le _ _ (p .1) }
-
-  remembered-to : (r : Remembered) → RememberedIn (q .clock) r → T (rememberedSound q r)
-  unfolding rememberedSound allOf Parts
-  remembered-to r h = whole (leb (r .number) largest) (leb (r .nackedAt) (q .clock) ∷ []) (le→leb _ _ (h .number-fits), le→leb _ _ (h .nacked-by))
-
-  abbrev queueTests : List Bool
-  queueTests =
-      returnedSound highest returned
-      ∷ countersSound (q .counters)
-      ∷ rtxInRange (q .rtx)
-      ∷ jitterInRange (q .config .settings .«clock_rate») (q .jitter)
-      ∷ lossInRange (q .loss)
-      ∷ []
-
-  queue-of : T (configValid (q .config)) → T (queueSound q) → QueueIn q × Returned highest returned
-  unfolding queueSound allOf Parts
-  queue-of c t =
-      let p = parts (lastSound (q .clock) (q .last)) queueTests t in
-      (record { config-in = c; last-in = p .0; counters-in = counters-of _ (p .1 .1 .0); rtx-in = rtx-of _ (p .1 .1 .1 .0); jitter-in = p .1 .1 .1 .1 .0; loss-in = p .1 .1 .1 .1 .1 }, returned-of _ _ (p .1 .0))
-
-  queue-to : QueueIn q → Returned highest returned → T (queueSound q)
-  unfolding queueSound allOf Parts
-  queue-to h r =
-      whole (lastSound (q .clock) (q .last)) queueTests
-      (h .last-in, (returned-to _ _ r, (counters-to _ (h .counters-in), (rtx-to _ (h .rtx-in), (h .jitter-in, h .loss-in)))))
-
-module _ (s : State) where
-  abbrev fitTests : List Bool
-  fitTests = leb (length (s .gaps)) (s .queue .config .settings .«max_gaps») ∷ leb (length (s .remembered)) MAX-LOST-NACKED ∷ []
-
-  fits-of : T (countsFit s) → Fits s
-  unfolding countsFit allOf Parts
-  fits-of t =
-      let p = parts (leb (length (s .entries)) (2 * s .queue .config .settings .«max_entries»)) fitTests t in
-      record { entries-fit = leb→le _ _ (p .0); gaps-fit = leb→le _ _ (p .1 .0); remembered-fit = leb→le _ _ (p .1 .1) }
-
-  pub fits-to : Fits s → T (countsFit s)
-  unfolding countsFit allOf Parts
-  fits-to h =
-      whole (leb (length (s .entries)) (2 * s .queue .config .settings .«max_entries»)) fitTests
-      (le→leb _ _ (h .entries-fit), (le→leb _ _ (h .gaps-fit), le→leb _ _ (h .remembered-fit)))
-
-  abbrev soundTests : List Bool
-  soundTests =
-      queueSound (s .queue)
-      ∷ ascends (gapNumbers (s .gaps))
-      ∷ every? (gapSound (s .queue)) (s .gaps)
-      ∷ ascends (entryNumbers (s .entries))
-      ∷ every? (entrySound (s .queue) (s .gaps)) (s .entries)
-      ∷ every? (rememberedSound (s .queue)) (s .remembered)
-      ∷ []
-
-  pub sound-of : T (configValid (s .queue .config)) → T (sound s) → Each Canonical (s .gaps) → Sound s
-  unfolding sound allOf Parts
-  sound-of v t c =
-      let p = parts (countsFit s) soundTests t in
-      let q = queue-of (s .queue) v (p .1 .0) in
-      let e = each-of-every (entrySound (s .queue) (s .gaps)) (s .entries) (entry-of (s .queue) (s .gaps)) (p .1 .1 .1 .1 .1 .0) in
-      record {
-        fits = fits-of (p .0);
-        queue-in = q .0;
-        lists-in =
-            record {
-              returned-in = q .1;
-              gaps-rise = rising-of-ascends _ (s .gaps) (p .1 .1 .0);
-              gaps-in = each-imp (λ g h. gap-of (s .queue) g (h .0) (h .1)) (each-both (each-of-every (gapSound (s .queue)) (s .gaps) (λ g h. h) (p .1 .1 .1 .0)) c);
-              entries-rise = rising-of-ascends _ (s .entries) (p .1 .1 .1 .1 .0);
-              entries-in = each-imp (λ x h. h .0) e;
-              apart = each-imp (λ x h. h .1) e;
-              remembered-in = each-of-every (rememberedSound (s .queue)) (s .remembered) (remembered-of (s .queue)) (p .1 .1 .1 .1 .1 .1);
-            };
-      }
-
-  pub sound-to : Sound s → T (sound s)
-  unfolding sound allOf Parts
-  sound-to h =
-      let l = h .lists-in in
-      whole (countsFit s) soundTests
-      (fits-to (h .fits), (queue-to (s .queue) (h .queue-in) (l .returned-in), (ascends-of-rising _ (s .gaps) (l .gaps-rise), (every-of-each (gapSound (s .queue)) (gap-to (s .queue)) (l .gaps-in), (ascends-of-rising _ (s .entries) (l .entries-rise), (every-of-each (entrySound (s .queue) (s .gaps)) (entry-to (s .queue) (s .gaps)) (each-both (l .entries-in) (l .apart)), every-of-each (rememberedSound (s .queue)) (remembered-to (s .queue)) (l .remembered-in)))))))
-
--- ---- the setting that the jitter's range rests on
-
-pub record RateIn (c : Config) : Type 0 where
-  pub some : 1 ≤ c .settings .«clock_rate»
-  pub small : c .settings .«clock_rate» ≤ 1000000
-
-pub rate-of : (c : Config) → T (configValid c) → RateIn c
-unfolding configValid settingsValid allLeft Parts
-rate-of c t =
-    let set = c .settings in
-    let p =
-    left (within 1 1000000 (set .«clock_rate»))
-    (within 1 1024 (set .«max_entries»)
-    ∷ within 999 4096 (set .«max_gaps»)
-    ∷ leb (set .delay) longest
-    ∷ leb (set .«initial_nack_delay») longest
-    ∷ leb (set .«default_nack_resend_delay») longest
-    ∷ leb (set .«nack_window») longest
-    ∷ within 1 255 (set .«max_nack_attempts»)
-    ∷ [])
-    (and-l (settingsValid set) (sendersValid (c .senders)) t) in
-    let r = left (leb 1 (set .«clock_rate»)) (leb (set .«clock_rate») 1000000 ∷ []) (p .0) in
-    record { some = leb→le _ _ (r .0); small = leb→le _ _ (r .1) }
 
 -- ---- the order in the words of the claim
 

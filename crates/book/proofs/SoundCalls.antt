@@ -1,45 +1,44 @@
 -- A working session never locks itself up: a newly opened session is sound, each call that is not refused leaves a sound one (`taken-sound`),
 -- and what is written of a sound session is read as the same session, so check 16 passes it (`written`).
-use mathlib.Core.Path.{_≡_, refl, sym, ap, _∙_, subst}
+use mathlib.Core.Path.{_≡_, refl, sym, subst}
 use mathlib.Core.Logic.{inl}
-use mathlib.Core.Bool.{Bool, true, false, not, cond, _&&_}
+use mathlib.Core.Bool.{Bool, true, false, not, _&&_}
 use mathlib.Core.List.{List, [], _∷_}
 use Prim.Native.Nat.{ℕ, _*_, _≤_}
 use native.Mathlib.Omega.{arith}
 use lib.IntN.{pos}
 use lib.Dec.{T, eqb, eqb-refl, lit<, lit≤}
-use lib.ListN.{length}
 use borrow.Author.Tests.{eq-eqb}
 use lib.Ieee.{Float, nan, inf, fin, binary64, ofBits, ofInt, up, down, eq, le}
+use lib.Ieee.Bits.{is-true}
 use lib.Ieee.Fits.{and-l, and-r, and-i}
-use Rattle.float_laws.proofs.Upto.{NonNeg, nought, nought-le, ofInt-upto}
+use Rattle.float_laws.proofs.Upto.{NonNeg, nought-le, ofInt-upto}
 use Rattle.refusals.specs.Refusals.{SETTINGS, SESSION}
 use Rattle.refusals.proofs.Laws.{orElse-none}
-use Rattle.durations.specs.Seconds.{largest, zero64}
+use Rattle.durations.specs.Seconds.{zero64}
 use Rattle.durations.proofs.Bound.{zero-is}
 use Rattle.jitter.specs.Interarrival.{newJitter, jitterWithin, jitterInRange}
 use Rattle.packet_loss.specs.Loss.{newLoss, lossInRange}
 use Rattle.rtx_state.specs.RoundTrip.{optRttInRange}
 use Rattle.model.specs.declared.Config.{Config}
-use Rattle.model.specs.Records.{Entry, Gap, State, newQueue, newState, highestOf, returnedOf}
+use Rattle.model.specs.Records.{State, newQueue, newState, highestOf, returnedOf}
 use Rattle.model.specs.Valid.{lastSound, countsFit, sound}
-use Rattle.model.specs.Storage.{Storage, Stored, lengthsFit, parse, write}
+use Rattle.model.specs.Storage.{Stored, lengthsFit, parse, write}
 use Rattle.model.specs.Calls.{Call, media, repair, poll, pollNack, timeoutReceive, timeoutNack, rtxStats, highestReceived, taken}
 use Rattle.model.specs.Table.{refuseIf, configValid, sessionSound, sessionRefusal, callRefusal, refusal, openingRefusal}
-use Rattle.model.specs.Did.{accepted, turnedBack, did}
-use Rattle.model.proofs.Laid as Laid
-use Rattle.model.proofs.Laid.{Canonical, Writable, parse-write, lengths-write, parse-canonical}
+use Rattle.model.specs.Did.{accepted, did}
+use Rattle.model.proofs.Laid.{Fits, parse-write, lengths-write}
 use Rattle.model.proofs.Lists.{not-not, Each, none, more, each-imp, empty}
 use Rattle.book.specs.Claim.{NeverLocksUp}
-use Rattle.book.proofs.Cases.{is-true}
-use Rattle.book.proofs.Sound.{Returned, Sound, sound-of, sound-to, fits-to, rate-of}
+use Rattle.book.proofs.Sound.{Returned, Sound}
+use Rattle.book.proofs.SoundTest.{sound-of, sound-to, fits-to, rate-of}
 use Rattle.book.proofs.SoundQueue.{not-refused}
 use Rattle.book.proofs.SoundPush.{media-sound, repair-sound}
 use Rattle.book.proofs.SoundPoll.{poll-sound, poll-nack-sound}
 
 -- ---- the opening
 
--- a float that is no NaN equals itself
+-- a finite float equals itself
 eq-self : (x : Float) → NonNeg x → T (eq x x)
 unfolding eq
 eq-self nan p = absurd p
@@ -61,7 +60,7 @@ new-loss : T (lossInRange newLoss)
 unfolding lossInRange ofBits le
 new-loss = tt
 
-pub new-sound : (c : Config) → T (configValid c) → Sound (newState c)
+new-sound : (c : Config) → T (configValid c) → Sound (newState c)
 unfolding newState newQueue lastSound optRttInRange Returned highestOf returnedOf
 new-sound c v =
     record {
@@ -93,20 +92,9 @@ taken-sound highestReceived s h e = h
 
 -- ---- written and read again
 
-module _ {A : Type 0} {P : A → Type 0} where
-  each-laid : {l : List A} → Each P l → Laid.Each P l
-  unfolding Laid.Each
-  each-laid none = tt
-  each-laid (more h t) = (h, each-laid t)
-
-  laid-each : (l : List A) → Laid.Each P l → Each P l
-  unfolding Laid.Each
-  laid-each [] h = none
-  laid-each (x ∷ xs) h = more (h .0) (laid-each xs (h .1))
-
-pub writable : {s : State} → Sound s → Writable s
-unfolding Laid.Fits
-writable h = record { payloads = each-laid (each-imp (λ e k. k .payload-fits) (h .lists-in .entries-in)); gaps = each-laid (each-imp (λ g k. k .canonical) (h .lists-in .gaps-in)) }
+pub payloads-fit : {s : State} → Sound s → Each Fits (s .entries)
+unfolding Fits
+payloads-fit h = each-imp (λ e k. k .payload-fits) (h .lists-in .entries-in)
 
 passes : (b : Bool) (k : ℕ) → T b → refuseIf (not b) k ≡ 0
 unfolding refuseIf
@@ -117,21 +105,21 @@ written : (s : State) → Sound s → sessionRefusal (write s) ≡ 0
 unfolding sessionRefusal sessionSound write
 written s h =
     let set = s .queue .config .settings in
-    let fit = lengths-write s (writable h .payloads) (is-true (countsFit s) (fits-to s (h .fits))) in
+    let fit = lengths-write s (payloads-fit h) (is-true (countsFit s) (fits-to s (h .fits))) in
     passes (sessionSound (write s)) SESSION
     (and-i (configValid (s .queue .config)) (lengthsFit set (write s .storage) && sound (parse (write s))) (h .queue-in .config-in)
-    (and-i (lengthsFit set (write s .storage)) (sound (parse (write s))) (subst T (sym fit) tt) (subst (λ (x : State). T (sound x)) (sym (parse-write s (writable h))) (sound-to s h))))
+    (and-i (lengthsFit set (write s .storage)) (sound (parse (write s))) (subst T (sym fit) tt) (subst (λ (x : State). T (sound x)) (sym (parse-write s (payloads-fit h))) (sound-to s h))))
 
--- what check 16 passes is sound
+-- a session that check 16 passes is sound
 pub sound-session : (m : Stored) → sessionRefusal m ≡ 0 → Sound (parse m)
 unfolding sessionRefusal sessionSound parse
 sound-session m e =
     let c = m .session .queue .config in
     let rest = lengthsFit (c .settings) (m .storage) && sound (parse m) in
     let t = not-not (configValid c && rest) (not-refused (not (configValid c && rest)) SESSION (lit< tt) e) in
-    sound-of (parse m) (and-l (configValid c) rest t) (and-r (lengthsFit (c .settings) (m .storage)) (sound (parse m)) (and-r (configValid c) rest t)) (laid-each (parse m .gaps) (parse-canonical m))
+    sound-of (parse m) (and-l (configValid c) rest t) (and-r (lengthsFit (c .settings) (m .storage)) (sound (parse m)) (and-r (configValid c) rest t))
 
--- and so is the session that an accepted call finds, and the one that it leaves
+-- so is the session that an accepted call finds, and the one that it leaves
 pub accepted-sound : (k : Call) (m : Stored) → refusal k m ≡ 0 → Sound (parse m)
 unfolding refusal
 accepted-sound k m e = sound-session m (orElse-none _ _ e .0)
@@ -141,13 +129,9 @@ unfolding refusal
 left-sound k m e = taken-sound k (parse m) (accepted-sound k m e) (orElse-none _ _ e .1)
 
 -- an accepted call leaves what is written of `taken`
-pub did-taken : (k : Call) (m : Stored) → refusal k m ≡ 0 → did k m .stored ≡ write (taken k (parse m))
+did-taken : (k : Call) (m : Stored) → refusal k m ≡ 0 → did k m .stored ≡ write (taken k (parse m))
 unfolding did accepted
 did-taken k m e = rw (eq-eqb (refusal k m) 0 e)
-
--- which is read as `taken`
-pub parse-did : (k : Call) (m : Stored) → refusal k m ≡ 0 → parse (did k m .stored) ≡ taken k (parse m)
-parse-did k m e = ap parse (did-taken k m e) ∙ parse-write (taken k (parse m)) (writable (left-sound k m e))
 
 pub never-locks-up : NeverLocksUp
 unfolding openingRefusal

@@ -1,21 +1,20 @@
 -- What check 16 says of the three lists stays true as the clock goes on, gaps open and close, a packet comes to wait, and the front goes out.
 use mathlib.Core.Path.{_≡_, refl, sym, _∙_}
 use mathlib.Core.Logic.{_≢_}
-use mathlib.Core.Bool.{Bool, not}
-use mathlib.Core.List.{List, [], _∷_, _++_, map}
+use mathlib.Core.Bool.{not}
+use mathlib.Core.List.{List, _∷_, _++_, map}
 use Prim.Native.Nat.{ℕ, suc, _-_, _≤_, _<_}
 use native.Mathlib.Omega.{arith}
-use lib.Dec.{T, ltb, nltb→le}
+use lib.Dec.{T, nltb→le}
 use Rattle.rtp.specs.declared.opt.Opt.{Opt}
 use Rattle.rtp.specs.declared.opt.Opt.the-variants.{None, Some}
 use Rattle.config.specs.declared.RtpInboundQueueMode.{RtpInboundQueueMode}
 use Rattle.config.specs.declared.RtpInboundQueueMode.the-variants.{Passthrough, SortedQueue}
-use Rattle.model.specs.Lists.{following, keep, some?}
+use Rattle.model.specs.Lists.{some?}
 use Rattle.model.specs.Records.{Entry, Gap, Remembered}
 use Rattle.model.specs.Rules.{is, below, without, gapsFrom, between, fresh}
 use Rattle.model.specs.Push.{insertSorted}
-use Rattle.model.proofs.Laid.{Canonical}
-use Rattle.model.proofs.Lists.{not-not, eqb-no, Each, none, more, each-first, each-rest, each-imp, each-both, each-append, each-keep, each-kept, each-map, Rising, empty, rising-first, rising-rest, rising-keep, rising-append, rising-map, each-following, rising-following, each-insert, rising-insert, holds-of-some}
+use Rattle.model.proofs.Lists.{eqb-no, Each, each-first, each-rest, each-imp, each-both, each-append, each-keep, each-kept, each-map, Rising, rising-first, rising-rest, rising-keep, rising-append, rising-map, each-following, rising-following, each-insert, rising-insert, holds-of-some}
 use Rattle.book.proofs.Sound.{Reached, Under, Ahead, Returned, By, GapIn, EntryIn, RememberedIn, Apart, ListsIn}
 
 -- ---- one element
@@ -36,7 +35,7 @@ unfolding Reached Under
 under-raised None n k up r = absurd r
 under-raised (Some h) n k up r = omega (arith, up h (omega arith))
 
-pub reached-of-under : (h : Opt) (n : ℕ) → Under h n → Reached h n
+reached-of-under : (h : Opt) (n : ℕ) → Under h n → Reached h n
 unfolding Reached Under
 reached-of-under None n u = u
 reached-of-under (Some h) n u = omega arith
@@ -54,7 +53,7 @@ ahead-new SortedQueue h None n up t = tt
 ahead-new SortedQueue h (Some k) n up t = up k t
 
 -- and any above the one that goes out
-pub ahead-of-front : (mode : RtpInboundQueueMode) (k n : ℕ) → k < n → Ahead mode (Some k) n
+ahead-of-front : (mode : RtpInboundQueueMode) (k n : ℕ) → k < n → Ahead mode (Some k) n
 unfolding Ahead
 ahead-of-front Passthrough k n lt = tt
 ahead-of-front SortedQueue k n lt = lt
@@ -67,7 +66,7 @@ module _ {clock : ℕ} {highest : Opt} {mode : RtpInboundQueueMode} {returned : 
       record {
         returned-in = l .returned-in;
         gaps-rise = l .gaps-rise;
-        gaps-in = each-imp (λ g h. record { under = h .under; ahead = h .ahead; detected-by = omega arith; nacked-by = omega arith; canonical = h .canonical }) (l .gaps-in);
+        gaps-in = each-imp (λ g h. record { under = h .under; ahead = h .ahead; detected-by = omega arith; nacked-by = omega arith }) (l .gaps-in);
         entries-rise = l .entries-rise;
         entries-in = each-imp (λ e h. record { reached = h .reached; ahead = h .ahead; timestamp-fits = h .timestamp-fits; came-by = by-later (e .arrival) le (h .came-by); payload-fits = h .payload-fits }) (l .entries-in);
         apart = l .apart;
@@ -98,17 +97,17 @@ module _ {clock : ℕ} {highest : Opt} {mode : RtpInboundQueueMode} {returned : 
       record { returned-in = l .returned-in; gaps-rise = l .gaps-rise; gaps-in = l .gaps-in; entries-rise = l .entries-rise; entries-in = l .entries-in; apart = l .apart; remembered-in = h }
 
   -- a packet comes to wait
-  pub put : (e : Entry) → EntryIn clock highest mode returned e → Apart gaps (e .number) → Each (λ (x : Entry). x .number ≢ e .number) entries → ListsIn clock highest mode returned gaps (insertSorted e entries) remembered
+  put : (e : Entry) → EntryIn clock highest mode returned e → Apart gaps (e .number) → Each (λ (x : Entry). x .number ≢ e .number) entries → ListsIn clock highest mode returned gaps (insertSorted e entries) remembered
   put e h a other =
       record { returned-in = l .returned-in; gaps-rise = l .gaps-rise; gaps-in = l .gaps-in; entries-rise = rising-insert e other (l .entries-rise); entries-in = each-insert e h (l .entries-in); apart = each-insert e a (l .apart); remembered-in = l .remembered-in }
 
   -- a new highest number
-  pub raise : (n : ℕ) → ((j : ℕ) → Reached highest j → j < n) → ListsIn clock (Some n) mode returned gaps entries remembered
+  raise : (n : ℕ) → ((j : ℕ) → Reached highest j → j < n) → ListsIn clock (Some n) mode returned gaps entries remembered
   raise n up =
       record {
         returned-in = returned-raised highest returned n up (l .returned-in);
         gaps-rise = l .gaps-rise;
-        gaps-in = each-imp (λ g h. record { under = under-raised highest n (g .number) up (h .under); ahead = h .ahead; detected-by = h .detected-by; nacked-by = h .nacked-by; canonical = h .canonical }) (l .gaps-in);
+        gaps-in = each-imp (λ g h. record { under = under-raised highest n (g .number) up (h .under); ahead = h .ahead; detected-by = h .detected-by; nacked-by = h .nacked-by }) (l .gaps-in);
         entries-rise = l .entries-rise;
         entries-in = each-imp (λ e h. record { reached = reached-raised highest n (e .number) up (h .reached); ahead = h .ahead; timestamp-fits = h .timestamp-fits; came-by = h .came-by; payload-fits = h .payload-fits }) (l .entries-in);
         apart = l .apart;
@@ -126,7 +125,7 @@ module _ {clock : ℕ} {highest : Opt} {mode : RtpInboundQueueMode} {returned : 
       record {
         returned-in = each-first front-in .reached;
         gaps-rise = rise;
-        gaps-in = each-imp (λ g h. record { under = h .0 .under; ahead = h .1; detected-by = h .0 .detected-by; nacked-by = h .0 .nacked-by; canonical = h .0 .canonical }) (each-both (sub _ (l .gaps-in)) ahead);
+        gaps-in = each-imp (λ g h. record { under = h .0 .under; ahead = h .1; detected-by = h .0 .detected-by; nacked-by = h .0 .nacked-by }) (each-both (sub _ (l .gaps-in)) ahead);
         entries-rise = rising-rest _ front-rise;
         entries-in =
             each-imp (λ x h. record { reached = h .0 .reached; ahead = ahead-of-front mode (e .number) (x .number) (h .1); timestamp-fits = h .0 .timestamp-fits; came-by = h .0 .came-by; payload-fits = h .0 .payload-fits })
@@ -138,6 +137,10 @@ module _ {clock : ℕ} {highest : Opt} {mode : RtpInboundQueueMode} {returned : 
 -- ---- where a media packet stands
 
 module _ {clock : ℕ} {highest : Opt} {mode : RtpInboundQueueMode} {returned : Opt} {gaps : List Gap} {entries : List Entry} {remembered : List Remembered} (l : ListsIn clock highest mode returned gaps entries remembered) where
+  -- a number among the gaps
+  pub reached-gap : (n : ℕ) → T (some? (is n) gaps) → Reached highest n
+  reached-gap n t = reached-of-under highest n (holds-of-some (Under highest) n gaps t (each-imp (λ g h. h .under) (l .gaps-in)))
+
   -- the gap of its number closes
   pub fill : (e : Entry) → EntryIn clock highest mode returned e → T (some? (is (e .number)) gaps) → ListsIn clock highest mode returned (without (e .number) gaps) (insertSorted e entries) remembered
   unfolding without is
@@ -166,8 +169,8 @@ from-ahead mode n gaps a =
 
 module _ {now h : ℕ} {mode : RtpInboundQueueMode} {returned : Opt} {gaps : List Gap} {entries : List Entry} {remembered : List Remembered} (l : ListsIn now (Some h) mode returned gaps entries remembered) where
   -- the numbers between the highest and a higher one become gaps
-  pub opened : (n : ℕ) → h < n → ListsIn now (Some n) mode returned (gaps ++ map (fresh now) (between h n)) entries remembered
-  unfolding between fresh Reached Under Canonical
+  opened : (n : ℕ) → h < n → ListsIn now (Some n) mode returned (gaps ++ map (fresh now) (between h n)) entries remembered
+  unfolding between fresh Reached Under
   opened n lt =
       let r = raise l n (λ j k. omega arith) in
       let new = each-following (suc h) (n - suc h) in
@@ -179,7 +182,7 @@ module _ {now h : ℕ} {mode : RtpInboundQueueMode} {returned : Opt} {gaps : Lis
             (each-map (fresh now) (each-imp (λ k b. b .0) new));
         gaps-in =
             each-append (r .gaps-in)
-            (each-map (fresh now) (each-imp (λ k b. record { under = omega arith; ahead = ahead-new mode (Some h) returned k (λ j c. omega arith) (l .returned-in); detected-by = omega arith; nacked-by = omega arith; canonical = λ z. refl }) new));
+            (each-map (fresh now) (each-imp (λ k b. record { under = omega arith; ahead = ahead-new mode (Some h) returned k (λ j c. omega arith) (l .returned-in); detected-by = omega arith; nacked-by = omega arith }) new));
         entries-rise = r .entries-rise;
         entries-in = r .entries-in;
         apart = each-imp (λ e k. each-append (k .1) (each-map (fresh now) (each-imp (λ j b q. absurd (omega (arith, k .0 .reached))) new))) (each-both (l .entries-in) (l .apart));

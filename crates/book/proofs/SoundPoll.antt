@@ -1,27 +1,25 @@
 -- A `poll` or `poll_nack` that is not refused leaves a sound session.
 use mathlib.Core.Path.{_≡_, refl}
 use mathlib.Core.Bool.{Bool, true, false, not, cond}
-use mathlib.Core.List.{List, [], _∷_, _++_, map}
-use Prim.Native.Nat.{ℕ, suc, _+_, _-_, _*_, _≤_, _<_}
+use mathlib.Core.List.{List, [], _∷_}
+use Prim.Native.Nat.{ℕ, _+_, _-_, _≤_}
 use native.Mathlib.Omega.{arith}
-use lib.Dec.{T, eqb}
+use lib.Dec.{eqb}
 use lib.ListN.{length, drop, length-append, length-map, length-drop}
 use Rattle.rtp.specs.declared.opt.Opt.{Opt}
-use Rattle.rtp.specs.declared.opt.Opt.the-variants.{None, Some}
+use Rattle.rtp.specs.declared.opt.Opt.the-variants.{Some}
 use Rattle.refusals.proofs.Laws.{orElse-none}
 use Rattle.durations.specs.Seconds.{largest}
 use Rattle.packet_loss.proofs.Range.{lost-in}
 use Rattle.config.specs.declared.Settings.{Settings}
 use Rattle.config.specs.declared.RtpInboundQueueMode.{RtpInboundQueueMode}
 use Rattle.config.specs.declared.RtpInboundQueueMode.the-variants.{Passthrough, SortedQueue}
-use Rattle.model.specs.Lists.{keep}
-use Rattle.model.specs.Records.{Entry, Gap, Remembered, State, highestOf, returnedOf}
+use Rattle.model.specs.Records.{Entry, Gap, Remembered, State, returnedOf}
 use Rattle.model.specs.Rules.{MAX-LOST-NACKED, below, gapsBelow, gapsFrom, due, nacked, nackDue, tried, latest, remember, rememberedAfter}
-use Rattle.model.specs.Poll.{countLost, lose, givenUp, notGivenUp, drained, ready, front, lostBelow, leftFrom, handOut, afterPoll, nackAll, afterPollNack}
+use Rattle.model.specs.Poll.{estimateOf, countLost, lose, givenUp, notGivenUp, drained, ready, front, lostBelow, leftFrom, handOut, afterPoll, nackAll, afterPollNack}
 use Rattle.model.specs.Table.{lostWith, pollRefusal, pollNackRefusal}
-use Rattle.model.proofs.Laid.{Canonical}
 use Rattle.model.proofs.Lists.{by-cases, Each, none, each-first, each-imp, each-append, each-drop, each-keep, each-trailing, each-map, Rising, rising-keep, rising-trailing, length-keep, length-trailing}
-use Rattle.book.proofs.Sound.{Ahead, GapIn, Apart, RememberedIn, ListsIn, CountersIn, QueueIn, Fits, ListsOf, Sound}
+use Rattle.book.proofs.Sound.{Ahead, GapIn, Apart, RememberedIn, Sound}
 use Rattle.book.proofs.SoundLists.{later, fewer, changed, remembering, out, from-ahead}
 use Rattle.book.proofs.SoundQueue.{clock-of, counts-of, last-later, under-fits}
 
@@ -77,8 +75,8 @@ each-latest : {P : Remembered → Type 0} {l : List Remembered} → Each P l →
 unfolding latest
 each-latest {l = l} h = each-drop (length l - MAX-LOST-NACKED) h
 
-module _ {clock : ℕ} where
-  each-remembered : (rtx : Bool) {lost : List Gap} {l : List Remembered} → Each (λ (g : Gap). RememberedIn clock (remember g)) lost → Each (RememberedIn clock) l → Each (RememberedIn clock) (rememberedAfter rtx lost l)
+module _ (P : Remembered → Type 0) where
+  pub each-remembered : (rtx : Bool) {lost : List Gap} {l : List Remembered} → Each (λ (g : Gap). P (remember g)) lost → Each P l → Each P (rememberedAfter rtx lost l)
   unfolding rememberedAfter
   each-remembered false h k = k
   each-remembered true h k = each-latest (each-append k (each-map remember (each-keep (λ (g : Gap). eqb (g .nacks) 1) h)))
@@ -145,7 +143,7 @@ out-sound e es s at h fits =
           rw rest
           (remembering
           (out l at (part-left mode n) (rising-left mode n (l .gaps-rise)) (ahead-left mode n (s .gaps) (each-first (rw at at (l .apart)))))
-          (each-remembered (s .queue .config .senders .«has_rtx»)
+          (each-remembered (RememberedIn (s .queue .clock)) (s .queue .config .senders .«has_rtx»)
           (part-lost mode n (each-imp (λ g k. record { number-fits = under-fits (s .queue .clock) (s .queue .last) (q .last-in) (k .under); nacked-by = k .nacked-by }) (l .gaps-in)))
           (l .remembered-in)));
     }
@@ -179,14 +177,14 @@ nacked-number true now g = refl
 nacked-number false now g = refl
 
 nacked-in : {now : ℕ} {highest : Opt} {mode : RtpInboundQueueMode} {returned : Opt} (b : Bool) (g : Gap) → GapIn now highest mode returned g → GapIn now highest mode returned (cond b (nacked now g) g)
-unfolding nacked Canonical
-nacked-in true g h = record { under = h .under; ahead = h .ahead; detected-by = h .detected-by; nacked-by = omega arith; canonical = λ z. absurd (omega arith) }
+unfolding nacked
+nacked-in true g h = record { under = h .under; ahead = h .ahead; detected-by = h .detected-by; nacked-by = omega arith }
 nacked-in false g h = h
 
 nacks-sound : (s : State) → Sound s → Sound (nackAll (s .queue .clock) s)
 unfolding nackAll nackDue
 nacks-sound s h =
-    let isDue = due (s .queue .config .settings) (s .queue .rtx .rtt) (s .queue .clock) in
+    let isDue = due (s .queue .config .settings) (estimateOf (s .queue)) (s .queue .clock) in
     record {
       fits = record { entries-fit = h .fits .entries-fit; gaps-fit = rw length-map (h .fits .gaps-fit); remembered-fit = h .fits .remembered-fit };
       queue-in = h .queue-in;

@@ -1,14 +1,14 @@
 -- A media packet or a repair that is not refused leaves a sound session.
-use mathlib.Core.Path.{_≡_, refl, sym}
-use mathlib.Core.Bool.{Bool, true, false, not, cond, _&&_}
-use mathlib.Core.List.{List, [], _∷_, _++_, map}
-use Prim.Native.Nat.{ℕ, suc, _+_, _-_, _*_, _^_, _%_, _≤_, _<_}
+use mathlib.Core.Path.{_≡_, refl}
+use mathlib.Core.Bool.{not}
+use mathlib.Core.List.{List, [], _∷_}
+use Prim.Native.Nat.{ℕ, suc, _+_, _-_, _*_, _≤_, _<_}
 use native.Mathlib.Omega.{arith}
 use lib.Dec.{T, leb, ltb, ltb→lt, nleb→lt, nltb→le, lit<}
-use lib.ListN.{length, drop, length-append, length-map, length-drop}
+use lib.ListN.{length, length-append, length-map, length-drop}
 use Rattle.rtp.specs.declared.opt.Opt.{Opt}
 use Rattle.rtp.specs.declared.opt.Opt.the-variants.{None, Some}
-use Rattle.refusals.specs.Refusals.{GAPS-FULL, ENTRIES-FULL, NO-MEDIA, orElse}
+use Rattle.refusals.specs.Refusals.{GAPS-FULL, ENTRIES-FULL}
 use Rattle.refusals.proofs.Laws.{orElse-none}
 use Rattle.durations.specs.Seconds.{largest}
 use Rattle.rtp_packet.specs.Header.{payloadOf}
@@ -20,15 +20,14 @@ use Rattle.packet_loss.proofs.Range.{received-in, lost-in}
 use Rattle.config.specs.declared.Settings.{Settings}
 use Rattle.config.specs.declared.RtpInboundQueueMode.{RtpInboundQueueMode}
 use Rattle.model.specs.declared.LastReceived.{LastReceived}
-use Rattle.model.specs.declared.Queue.{Queue}
 use Rattle.model.specs.Lists.{some?}
 use Rattle.model.specs.Records.{Entry, Gap, Remembered, State, highestOf, returnedOf}
-use Rattle.model.specs.Rules.{MAX-GAP-SIZE, MAX-LOST-NACKED, is, below, without, gapsFrom, Place, first, near, far, fills, other, placeOf, waits, between, fresh, gapsAfter, isOf, gapOf, forgetFirst}
+use Rattle.model.specs.Rules.{MAX-GAP-SIZE, MAX-LOST-NACKED, is, below, without, gapsFrom, Place, first, near, far, fills, other, placeOf, waits, between, gapsAfter, isOf, forgetFirst}
 use Rattle.model.specs.Push.{passed, insertSorted, mediaPlace, heard, lastAfter, countDropped, countReceived, afterDropped, afterQueued, frontOut, overfull, withinDepth, mediaEntry, afterMedia, Fate, tooLate, recovered, redundant, repairFate, repairEntry, afterFate, afterRepair}
-use Rattle.model.specs.Table.{countRefusal, mediaValues, tooManyGaps, mediaRefusal, fateValues, noPlace, repairRefusal}
-use Rattle.model.proofs.Lists.{by-cases, by-nand, arm-yes, arm-no, Each, none, more, each-first, each-rest, each-keep, each-imp, empty, rising-keep, length-keep, length-following, length-insert, holds-of-some}
-use Rattle.book.proofs.Sound.{Reached, Under, Ahead, ahead-of, By, EntryIn, ListsIn, CountersIn, RtxIn, QueueIn, Fits, ListsOf, Sound, RememberedIn}
-use Rattle.book.proofs.SoundLists.{reached-of-under, later, fewer, remembering, out, fill, come, step, from-ahead}
+use Rattle.model.specs.Table.{mediaValues, tooManyGaps, mediaRefusal, fateValues, noPlace, repairRefusal}
+use Rattle.model.proofs.Lists.{by-cases, by-nand, arm-yes, arm-no, Each, none, more, each-first, each-rest, each-keep, empty, rising-keep, length-keep, length-following, length-insert}
+use Rattle.book.proofs.Sound.{Reached, Ahead, ahead-of, By, EntryIn, ListsIn, QueueIn, ListsOf, Sound}
+use Rattle.book.proofs.SoundLists.{reached-gap, later, fewer, remembering, out, fill, come, step, from-ahead}
 use Rattle.book.proofs.SoundQueue.{not-refused, clock-of, counts-of, last-after, last-later, repair-in, late-in, heard-in}
 
 -- ---- where a media number stands
@@ -40,7 +39,7 @@ pub data Stands (highest : Opt) (gaps : List Gap) (n : ℕ) : Place → Type 0 w
   is-gap : T (some? (is n) gaps) → Stands highest gaps n fills
   is-other : Stands highest gaps n other
 
-pub stands : (highest : Opt) (gaps : List Gap) (n : ℕ) → Stands highest gaps n (placeOf highest gaps n)
+stands : (highest : Opt) (gaps : List Gap) (n : ℕ) → Stands highest gaps n (placeOf highest gaps n)
 unfolding placeOf
 stands None gaps n = is-first refl
 stands (Some h) gaps n =
@@ -79,7 +78,7 @@ module _ {now : ℕ} {mode : RtpInboundQueueMode} {returned : Opt} {gaps : List 
       go (is-near at lt) w = step (rw at at l) e new lt
       go (is-far at lt) w = come (fewer l (λ P k. none) empty) e new (λ j r. let le = rw at at r in omega arith)
       go (is-gap t) w =
-          fill l e (record { reached = reached-of-under (highestOf last) (e .number) (holds-of-some (Under (highestOf last)) (e .number) gaps t (each-imp (λ g h. h .under) (l .gaps-in))); ahead = ahead; timestamp-fits = ts; came-by = by; payload-fits = size }) t
+          fill l e (record { reached = reached-gap l (e .number) t; ahead = ahead; timestamp-fits = ts; came-by = by; payload-fits = size }) t
       go is-other w = absurd w
 
 -- check 12: the gaps that open find places
@@ -266,7 +265,7 @@ module _ (now : ℕ) (e : Entry) (s : State) (h : Sound s) (later-now : s .queue
       by-cases P (some? (is (e .number)) (s .gaps))
       (λ t values room.
       recovered-sound values room
-      (record { reached = reached-of-under (highestOf (s .queue .last)) (e .number) (holds-of-some (Under (highestOf (s .queue .last))) (e .number) (s .gaps) t (each-imp (λ g k. k .under) (h .lists-in .gaps-in))); ahead = ahead-of mode returned (e .number) z; timestamp-fits = ts; came-by = rw none-came tt; payload-fits = size })
+      (record { reached = reached-gap (h .lists-in) (e .number) t; ahead = ahead-of mode returned (e .number) z; timestamp-fits = ts; came-by = rw none-came tt; payload-fits = size })
       t)
       (λ n values room. redundant-sound values))
     where

@@ -1,19 +1,18 @@
 -- What a call that is not refused says of its values, and that the queue's own numbers then stay within check 16's bounds.
-use mathlib.Core.Path.{_≡_, refl}
+use mathlib.Core.Path.{_≡_}
 use mathlib.Core.Bool.{Bool, true, false, not, _&&_, _||_}
 use mathlib.Core.List.{List, [], _∷_}
-use Prim.Native.Nat.{ℕ, suc, _+_, _-_, _*_, _^_, _≤_, _<_}
+use Prim.Native.Nat.{ℕ, _-_, _≤_, _<_}
 use native.Mathlib.Omega.{arith}
 use lib.Dec.{T, leb, ltb, eqb, leb→le, le→leb, nltb→le, lit<}
 use lib.Ieee.Fits.{and-l, and-r, and-i}
-use Rattle.rtp.specs.declared.opt.Opt.{Opt}
 use Rattle.refusals.specs.Refusals.{CLOCK, COUNT}
 use Rattle.durations.specs.Seconds.{largest}
 use Rattle.jitter.specs.declared.Jitter.{Jitter}
 use Rattle.jitter.specs.Interarrival.{jitterInRange}
 use Rattle.jitter.proofs.Range.{updated-in}
 use Rattle.rtx_state.specs.declared.OptRtt.{OptRtt}
-use Rattle.rtx_state.specs.RoundTrip.{sampledRtt, optRttInRange}
+use Rattle.rtx_state.specs.RoundTrip.{optRttInRange}
 use Rattle.rtx_state.proofs.Range.{sampled-in}
 use Rattle.model.specs.declared.LastReceived.{LastReceived}
 use Rattle.model.specs.declared.LastReceived.the-variants as LastReceived
@@ -25,7 +24,8 @@ use Rattle.model.specs.Push.{jitterAfter, heard, lastAfter}
 use Rattle.model.specs.Valid.{lastSound}
 use Rattle.model.specs.Table.{refuseIf, clockRefusal, countRefusal}
 use Rattle.model.proofs.Lists.{by-cases, by-nor, Each, each-imp, each-not-of-some}
-use Rattle.book.proofs.Sound.{Under, CountersIn, QueueIn, RateIn, rate-of}
+use Rattle.book.proofs.Sound.{Under, QueueIn}
+use Rattle.book.proofs.SoundTest.{rate-of}
 
 -- ---- checks that pass
 
@@ -81,7 +81,7 @@ unfolding jitterAfter lastSound
 jitter-after clock LastReceived.None j some small a b t h = h
 jitter-after clock {now} {ts} {rate} (LastReceived.Some r) j some small a b t h =
     let c = leb→le (r .timestamp .0) largest (and-l (leb (r .timestamp .0) largest) (leb (r .number .0) largest) (and-r (leb (r .instant) clock) (leb (r .timestamp .0) largest && leb (r .number .0) largest) t)) in
-    updated-in rate some small j h now ts (r .instant) (r .timestamp .0) (omega arith) (omega arith) (omega arith)
+    updated-in rate some (omega arith) j h now ts (r .instant) (r .timestamp .0) (omega arith) (omega arith) (omega arith)
 
 pub repair-in : {now : ℕ} (l : List Gap) (rtt : OptRtt) → now ≤ largest → T (optRttInRange rtt) → T (optRttInRange (rttAfterRepair now l rtt))
 unfolding rttAfterRepair

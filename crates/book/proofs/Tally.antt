@@ -10,13 +10,13 @@ use Rattle.rtp_packet.specs.Header.{sequenceNumber, payloadOf}
 use Rattle.rtp_packet.specs.Original.{originalNumber}
 use Rattle.model.specs.declared.Config.{Config}
 use Rattle.model.specs.Lists.{following, some?}
-use Rattle.model.specs.Records.{Gap, gapNumbers}
-use Rattle.model.specs.Rules.{is, without, gapsBelow, Place, first, near, far, fills, other, placeOf, waits, between, fresh, gapsAfter, MAX-GAP-SIZE}
+use Rattle.model.specs.Records.{gapNumbers}
+use Rattle.model.specs.Rules.{is, gapsBelow, Place, first, near, far, fills, placeOf, waits, between, fresh, gapsAfter, MAX-GAP-SIZE}
 use Rattle.model.specs.Poll.{givenUp, lostBelow}
 use Rattle.model.specs.Calls.{Call, media, repair, poll, pollNack, timeoutReceive, timeoutNack, rtxStats, highestReceived}
 use Rattle.model.proofs.Lists.{by-cases}
 use Rattle.book.specs.Book.{Heard, refused, accepted, Span, none, fromTo, highest, Book, empty, spanAfter, forgottenBy, arrive, pushOut, overfull, withinDepth, onMedia, recover, tooLate, onRepair, giveUp, takeLowest, onPoll, nackAll, read, enter, allOf, arrived}
-use Rattle.book.proofs.Count.{same, same-yes, count, count-append, count-putIn, count-one, count-cons, count-nil, following-append, count-following-le}
+use Rattle.book.proofs.Count.{same, count, count-append, count-putIn, count-one, count-cons, count-nil, following-append, count-following-le}
 use Rattle.book.proofs.Gaps.{numbers-append, numbers-fresh, numbers-nackDue, count-below, count-given-up, count-lost-below, some-counted, count-without}
 
 -- how often n stands in the five lists
@@ -36,7 +36,7 @@ unfolding empty total arrived allOf Ordered count
 tally-empty = record { tally = λ n. refl; ordered = tt }
 
 -- a run has a number once
-pub arrived-once : (n : ℕ) (s : Span) → count n (allOf s) ≤ 1
+arrived-once : (n : ℕ) (s : Span) → count n (allOf s) ≤ 1
 unfolding allOf count
 arrived-once n none = omega arith
 arrived-once n (fromTo f h) = count-following-le n f (suc h - f)

@@ -1,38 +1,35 @@
 -- Demand 3. After every list of calls the tally gives the two lists, since two sorted lists that count alike are equal; the rest runs along from
 -- call to call. A refused call changes nothing. An accepted one leaves what `taken` says, read back from storage; check 16 finds nothing there.
 use mathlib.Core.Path.{_≡_, refl, sym, ap, _∙_, subst}
-use mathlib.Core.Logic.{_⊎_, inl, inr, _↔_}
-use mathlib.Core.Bool.{Bool, true, false, cond, not}
+use mathlib.Core.Logic.{_↔_}
 use mathlib.Core.List.{List, [], _∷_, _++_, map, foldl, append-nil}
-use Prim.Native.Nat.{ℕ, suc, _+_, _-_, _%_, _^_, _≤_}
+use Prim.Native.Nat.{ℕ, suc, _+_, _-_, _%_, _^_}
 use native.Mathlib.Omega.{arith}
 use lib.Dec.{T, eqb, eqb→eq}
+use borrow.Author.Tests.{eq-eqb}
 use lib.ListN.{length}
-use Rattle.rtp.specs.declared.opt.Opt.{Opt}
 use Rattle.config.specs.declared.RtpInboundQueueMode.{RtpInboundQueueMode}
 use Rattle.config.specs.declared.RtpInboundQueueMode.the-variants.{Passthrough, SortedQueue}
 use Rattle.model.specs.declared.Config.{Config}
-use Rattle.model.specs.Records.{Gap, State, newState, newQueue, entryNumbers, gapNumbers, highestOf, returnedOf}
+use Rattle.model.specs.Records.{Gap, State, newState, newQueue, gapNumbers, highestOf, returnedOf}
 use Rattle.model.specs.Storage.{Storage, Stored, parse, write}
-use Rattle.model.specs.Calls as Calls
-use Rattle.model.specs.Calls.{Call, Answer, taken, answered}
+use Rattle.model.specs.Calls.{Call, taken, answered}
 use Rattle.model.specs.Table.{sessionRefusal, refusal, openingRefusal}
-use Rattle.model.specs.Did.{Done, did, turnedBack, accepted}
-use Rattle.model.proofs.Laid as Laid
+use Rattle.model.specs.Did.{Done, did, turnedBack, accepted, opened}
 use Rattle.model.proofs.Laid.{parse-write}
-use Rattle.model.proofs.Lists.{by-cases}
+use Rattle.model.proofs.Lists.{none, by-cases}
 use Rattle.book.specs.Sorted.{putAllIn, sort, Ascending}
 use Rattle.book.specs.Book as B
 use Rattle.book.specs.Book.{Span, none, fromTo, Book, empty, enter, allOf, arrived, accounted}
-use Rattle.book.specs.Claim.{hear, given, Run, start, call, calls, InOrder, Holds, Step, EveryListOfCalls, NeverLocksUp}
+use Rattle.book.specs.Claim.{hear, given, Run, start, call, calls, InOrder, Holds, Step, EveryListOfCalls}
 use Rattle.book.proofs.Cases.{cond-yes}
 use Rattle.book.proofs.Count.{count, count-append, count-putAllIn, count-sort, Sorted, sorted-putAllIn, sorted-sort, sorted-same, sorted-following, none-counted}
 use Rattle.book.proofs.Tally.{total, Tally, tally-empty, tally-enter}
 use Rattle.book.proofs.Sound.{Sound, ListsOf, rising-ascending}
-use Rattle.book.proofs.SoundCalls.{writable, sound-session, left-sound, never-locks-up}
+use Rattle.book.proofs.SoundCalls.{payloads-fit, sound-session, left-sound, never-locks-up}
 use Rattle.book.proofs.Past.{PastOf, past-none, past-ascends}
 use Rattle.book.proofs.Same.{Same, same-taken}
-use Rattle.book.proofs.Moved.{Moved, outOf, given-out, moved-taken, past-taken, enter-forgets}
+use Rattle.book.proofs.Moved.{outOf, given-out, moved-taken, past-taken, enter-forgets}
 
 -- ---- the two lists
 
@@ -115,11 +112,11 @@ holds {c} {x} f i =
 -- ---- calls on stored bytes
 
 read-new : (c : Config) → parse (write (newState c)) ≡ newState c
-unfolding newState Laid.Each
-read-new c = parse-write (newState c) (record { payloads = tt; gaps = tt })
+unfolding newState
+read-new c = parse-write (newState c) none
 
 read-taken : (k : Call) (m : Stored) → refusal k m ≡ 0 → parse (write (taken k (parse m))) ≡ taken k (parse m)
-read-taken k m e = parse-write (taken k (parse m)) (writable (left-sound k m e))
+read-taken k m e = parse-write (taken k (parse m)) (payloads-fit (left-sound k m e))
 
 -- what every list of calls leaves
 record Left (c : Config) (x : Run) : Type 0 where
@@ -188,8 +185,10 @@ unfolding calls
 left c t ks e = left-calls c ks (start c) (left-start c t e)
 
 pub every-list-of-calls : EveryListOfCalls
+unfolding opened start
 every-list-of-calls =
     record {
+      opening = λ c t e. rw (eq-eqb (openingRefusal c t) 0 e);
       every = λ c t ks e. let r : Left c (calls c ks) = left c t ks e in holds (sound-session (calls c ks .stored) (r .sound)) (r .inv);
       further = λ c t ks k e. step c (calls c ks) k (left c t ks e);
     }

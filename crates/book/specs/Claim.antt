@@ -10,12 +10,12 @@ use Rattle.config.specs.declared.RtpInboundQueueMode.{RtpInboundQueueMode}
 use Rattle.config.specs.declared.RtpInboundQueueMode.the-variants.{Passthrough, SortedQueue}
 use Rattle.rtp_packet.specs.Header.{sequenceNumber}
 use Rattle.model.specs.declared.Config.{Config}
-use Rattle.model.specs.Records.{State, newState, entryNumbers, gapNumbers, highestOf}
+use Rattle.model.specs.Records.{newState, entryNumbers, gapNumbers, highestOf}
 use Rattle.model.specs.Rules.{placeOf, waits, MAX-GAP-SIZE}
 use Rattle.model.specs.Storage.{Storage, Stored, parse, write}
 use Rattle.model.specs.Calls.{Call, media, Answer, refused, queued, dropped, repaired, nothing, packet, nack, timeout, stats, highest}
 use Rattle.model.specs.Table.{sessionRefusal, refusal, openingRefusal}
-use Rattle.model.specs.Did.{did}
+use Rattle.model.specs.Did.{did, session, opened}
 use Rattle.book.specs.Sorted.{putAllIn, sort, Ascending}
 use Rattle.book.specs.Book as B
 use Rattle.book.specs.Book.{Heard, Book, fromTo, empty, enter, read, arrive, overfull, arrived, accounted}
@@ -112,6 +112,8 @@ pub record Step (c : Config) (x : Run) (k : Call) : Type 0 where
 
 -- Demand 3.
 pub record EveryListOfCalls : Type 0 where
+  -- a newly opened session is what the opening leaves
+  pub opening : (c : Config) (t : Storage) → openingRefusal c t ≡ 0 → opened c t ≡ record { answer = session (start c .stored .session); storage = start c .stored .storage }
   pub every : (c : Config) (t : Storage) (ks : List Call) → openingRefusal c t ≡ 0 → Holds c (calls c ks)
   pub further : (c : Config) (t : Storage) (ks : List Call) (k : Call) → openingRefusal c t ≡ 0 → Step c (calls c ks) k
 

@@ -14,7 +14,7 @@ use Rattle.rtp_packet.specs.Original.{originalRefusal, originalNumber, original
 use Rattle.model.specs.declared.Config.{Config}
 use Rattle.model.specs.Rules.{extended}
 use Rattle.model.specs.Storage.{parse}
-use Rattle.model.specs.Calls.{Call, media}
+use Rattle.model.specs.Calls.{media}
 use Rattle.book.specs.Sorted.{sort}
 use Rattle.book.specs.Book.{arrived, accounted}
 use Rattle.book.specs.Claim.{Run, calls}

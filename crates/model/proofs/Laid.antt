@@ -23,38 +23,17 @@ use Rattle.model.specs.declared.Session.{Session}
 use Rattle.model.specs.Records.{Entry, Gap, Remembered, State}
 use Rattle.model.specs.Rules.{MAX-LOST-NACKED}
 use Rattle.model.specs.Valid.{countsFit}
+use Rattle.model.proofs.Lists.{Each, none, more}
 use Rattle.model.specs.Storage.{Storage, Stored, ENTRY-WORDS, PAYLOAD-BYTES, GAP-WORDS, REMEMBERED-WORDS, entryPlaces, lengthsFit, arrivalWord, arrivalOf, bit, entryWords, payloadBytes, entryOf, gapWords, gapOfWords, rememberedWords, rememberedOfWords, entriesOf, gapsOf, rememberedOf, entriesLaid, payloadsLaid, gapsLaid, rememberedLaid, parse, write}
 
--- each of a list has the property
-unfoldable pub Each : {A : Type 0} → (A → Type 0) → List A → Type 0
-Each P [] = Unit {0}
-Each P (x ∷ xs) = P x × Each P xs
-
 -- ---- records that can be read again
-
--- no instant of a NACK where there was none
-unfoldable pub Canonical : Gap → Type 0
-Canonical g = g .nacks ≡ 0 → g .nackedAt ≡ 0
 
 unfoldable pub Fits : Entry → Type 0
 Fits e = length (e .payload) ≤ PAYLOAD-BYTES
 
-pub record Writable (s : State) : Type 0 where
-  pub payloads : Each Fits (s .entries)
-  pub gaps : Each Canonical (s .gaps)
-
-gap-back : (g : Gap) → Canonical g → gapOfWords (gapWords g) ≡ g
-unfolding Canonical gapOfWords gapWords
-gap-back g c = ap (λ (at : ℕ). record { number = g .number; detected = g .detected; nacks = g .nacks; nackedAt = at }) (go (eqb (g .nacks) 0) refl)
-  where
-    go : (b : Bool) → eqb (g .nacks) 0 ≡ b → cond b 0 (g .nackedAt) ≡ g .nackedAt
-    go true e = sym (c (eqb-true (g .nacks) 0 e))
-    go false e = refl
-
--- what is read is canonical
-pub gap-canonical : (w : List ℕ) → Canonical (gapOfWords w)
-unfolding Canonical gapOfWords
-gap-canonical w e = rw (eq-eqb (getD w 2 0) 0 e)
+gap-back : (g : Gap) → gapOfWords (gapWords g) ≡ g
+unfolding gapOfWords gapWords
+gap-back g = refl
 
 remembered-back : (r : Remembered) → rememberedOfWords (rememberedWords r) ≡ r
 unfolding rememberedOfWords rememberedWords
@@ -120,44 +99,44 @@ unfolding Fits payloadBytes
 payload-wide e h = length-padded PAYLOAD-BYTES (e .payload) h
 
 pub even-payloads : (l : List Entry) → Each Fits l → Even PAYLOAD-BYTES (map payloadBytes l)
-unfolding Even Each
-even-payloads [] f = tt
-even-payloads (e ∷ l) f = (payload-wide e (f .0), even-payloads l (f .1))
+unfolding Even
+even-payloads [] none = tt
+even-payloads (e ∷ l) (more f fs) = (payload-wide e f, even-payloads l fs)
 
 -- ---- what is laid down is read again
 
-pub gapsOf-laid : (places : ℕ) (l : List Gap) → Each Canonical l → gapsOf (gapsLaid places l) (length l) ≡ l
-unfolding gapsOf gapsLaid Each
-gapsOf-laid places l c = ap (map gapOfWords) (blocks-laid GAP-WORDS gapWords gap-wide (GAP-WORDS * places) l) ∙ go l c
-  where
-    go : (l : List Gap) → Each Canonical l → map gapOfWords (map gapWords l) ≡ l
-    go [] c = refl
-    go (g ∷ l) c = rw (gap-back g (c .0), go l (c .1))
+-- records that are read back from their own words are read back as a list
+all-back : {A : Type 0} (of : List ℕ → A) (enc : A → List ℕ) → ((x : A) → of (enc x) ≡ x) → (l : List A) → map of (map enc l) ≡ l
+all-back of enc back [] = refl
+all-back of enc back (x ∷ l) = rw (back x, all-back of enc back l)
+
+pub gapsOf-laid : (places : ℕ) (l : List Gap) → gapsOf (gapsLaid places l) (length l) ≡ l
+unfolding gapsOf gapsLaid
+gapsOf-laid places l =
+    ap (map gapOfWords) (blocks-laid GAP-WORDS gapWords gap-wide (GAP-WORDS * places) l) ∙ all-back gapOfWords gapWords gap-back l
 
 pub rememberedOf-laid : (l : List Remembered) → rememberedOf (rememberedLaid l) (length l) ≡ l
 unfolding rememberedOf rememberedLaid
-rememberedOf-laid l = ap (map rememberedOfWords) (blocks-laid REMEMBERED-WORDS rememberedWords remembered-wide (REMEMBERED-WORDS * MAX-LOST-NACKED) l) ∙ go l
-  where
-    go : (l : List Remembered) → map rememberedOfWords (map rememberedWords l) ≡ l
-    go [] = refl
-    go (r ∷ l) = rw (remembered-back r, go l)
+rememberedOf-laid l =
+    ap (map rememberedOfWords) (blocks-laid REMEMBERED-WORDS rememberedWords remembered-wide (REMEMBERED-WORDS * MAX-LOST-NACKED) l)
+    ∙ all-back rememberedOfWords rememberedWords remembered-back l
 
 pub entriesOf-laid : (places : ℕ) (l : List Entry) → Each Fits l → entriesOf (entriesLaid places l) (payloadsLaid places l) (length l) ≡ l
-unfolding entriesOf entriesLaid payloadsLaid Each zipWith
+unfolding entriesOf entriesLaid payloadsLaid zipWith
 entriesOf-laid places l f =
     rw (blocks-laid ENTRY-WORDS entryWords entry-wide (ENTRY-WORDS * places) l, blocks-padded PAYLOAD-BYTES (PAYLOAD-BYTES * places) (length l) (map payloadBytes l) (even-payloads l f) (length-map l payloadBytes)) (go l f)
   where
     go : (l : List Entry) → Each Fits l → zipWith entryOf (map entryWords l) (map payloadBytes l) ≡ l
-    go [] f = refl
-    go (e ∷ l) f = rw (entry-back e (f .0), go l (f .1))
+    go [] none = refl
+    go (e ∷ l) (more f fs) = rw (entry-back e f, go l fs)
 
 -- ---- a session
 
-pub parse-write : (s : State) → Writable s → parse (write s) ≡ s
+pub parse-write : (s : State) → Each Fits (s .entries) → parse (write s) ≡ s
 unfolding parse write
 parse-write s h =
     let set = s .queue .config .settings in
-    rw (entriesOf-laid (entryPlaces set) (s .entries) (h .payloads), gapsOf-laid (set .«max_gaps») (s .gaps) (h .gaps), rememberedOf-laid (s .remembered))
+    rw (entriesOf-laid (entryPlaces set) (s .entries) h, gapsOf-laid (set .«max_gaps») (s .gaps), rememberedOf-laid (s .remembered))
 
 -- the slices have the lengths that the settings ask for
 pub lengths-write : (s : State) → Each Fits (s .entries) → countsFit s ≡ true → lengthsFit (s .queue .config .settings) (write s .storage) ≡ true
@@ -181,14 +160,6 @@ lengths-write s f fit =
 
 -- ---- what is read of any words
 
-pub gapsOf-canonical : (words : List ℕ) (n : ℕ) → Each Canonical (gapsOf words n)
-unfolding gapsOf Each
-gapsOf-canonical words n = go (blocks GAP-WORDS words n)
-  where
-    go : (bs : List (List ℕ)) → Each Canonical (map gapOfWords bs)
-    go [] = tt
-    go (b ∷ bs) = (gap-canonical b, go bs)
-
 pub length-gapsOf : (words : List ℕ) (n : ℕ) → length (gapsOf words n) ≡ n
 unfolding gapsOf
 length-gapsOf words n = length-map (blocks GAP-WORDS words n) gapOfWords ∙ length-blocks GAP-WORDS n words
@@ -202,12 +173,8 @@ unfolding entriesOf blocks zipWith
 length-entriesOf words bytes zero = refl
 length-entriesOf words bytes (suc n) = ap suc (length-entriesOf _ _ n)
 
--- of a session: canonical gaps, and as many records as it says
+-- of a session: as many records as it says
 module _ (m : Stored) where
-  pub parse-canonical : Each Canonical (parse m .gaps)
-  unfolding parse
-  parse-canonical = gapsOf-canonical (m .storage .gaps) (m .session .gaps)
-
   pub parse-entries : length (parse m .entries) ≡ m .session .entries
   unfolding parse
   parse-entries = length-entriesOf (m .storage .entries) (m .storage .payloads) (m .session .entries)

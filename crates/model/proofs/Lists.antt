@@ -1,6 +1,6 @@
 -- What holds of each element of a list, and that its numbers rise: kept by every part of the list, and by an element put in its place.
 -- Each law is by induction on the list; a test is taken by cases.
-use mathlib.Core.Path.{_≡_, refl, sym, subst}
+use mathlib.Core.Path.{_≡_, refl, subst}
 use mathlib.Core.Logic.{_≢_}
 use mathlib.Core.Bool.{Bool, true, false, cond, not, _&&_, _||_}
 use mathlib.Core.List.{List, [], _∷_, _++_, map}
@@ -10,7 +10,7 @@ use lib.Dec.{T, leb, ltb, eqb, leb→le, nleb→lt, ltb→lt, lt→ltb, eqb→eq
 use lib.Ieee.Fits.{and-l, and-r, and-i}
 use lib.ListN.{length, drop}
 use Rattle.words.specs.Order.{leads, ascends}
-use Rattle.model.specs.Lists.{following, keep, leading, trailing, some?, every?}
+use Rattle.model.specs.Lists.{following, keep, trailing, some?, every?}
 use Rattle.model.specs.Records.{Entry, Gap}
 use Rattle.model.specs.Rules.{is}
 use Rattle.model.specs.Push.{insertSorted}
@@ -43,7 +43,7 @@ pub by-nand : {P : Type 0} (a b : Bool) → T (not (a && b)) → (T (not a) → 
 by-nand true b t f g = g t
 by-nand false b t f g = f tt
 
-pub nor-i : (a b : Bool) → T (not a) → T (not b) → T (not (a || b))
+nor-i : (a b : Bool) → T (not a) → T (not b) → T (not (a || b))
 nor-i true b s t = absurd s
 nor-i false b s t = t
 
@@ -99,11 +99,6 @@ module _ {A : Type 0} where
   each-kept p [] = none
   each-kept p (x ∷ xs) = by-cases (Each (λ x. T (p x))) (p x) (λ y. more y (each-kept p xs)) (λ n. each-kept p xs)
 
-  pub each-leading : {P : A → Type 0} {l : List A} (p : A → Bool) → Each P l → Each P (leading p l)
-  unfolding leading
-  each-leading p none = none
-  each-leading {P} p (more {x = x} h t) = by-cases (Each P) (p x) (λ y. more h (each-leading p t)) (λ n. none)
-
   pub each-trailing : {P : A → Type 0} {l : List A} (p : A → Bool) → Each P l → Each P (trailing p l)
   unfolding trailing
   each-trailing p none = none
@@ -120,7 +115,7 @@ module _ {A : Type 0} where
   every-of-each p f none = tt
   every-of-each p f (more {x = x} {xs = xs} h t) = and-i (p x) (every? p xs) (f x h) (every-of-each p f t)
 
-  pub some-of-every-not : (p : A → Bool) (l : List A) → Each (λ x. T (not (p x))) l → T (not (some? p l))
+  some-of-every-not : (p : A → Bool) (l : List A) → Each (λ x. T (not (p x))) l → T (not (some? p l))
   unfolding some?
   some-of-every-not p [] none = tt
   some-of-every-not p (x ∷ xs) (more h t) = nor-i (p x) (some? p xs) h (some-of-every-not p xs t)
@@ -185,11 +180,6 @@ module _ {A : Type 0} (f : A → ℕ) where
   unfolding trailing
   rising-trailing p empty = empty
   rising-trailing p (above {x = x} h t) = by-cases Rising (p x) (λ y. rising-trailing p t) (λ n. above h t)
-
-  pub rising-drop : {l : List A} (n : ℕ) → Rising l → Rising (drop n l)
-  rising-drop zero r = r
-  rising-drop (suc n) empty = empty
-  rising-drop (suc n) (above h t) = rising-drop n t
 
   -- all of the first list are below m, and none of the second is
   pub rising-append : {l k : List A} (m : ℕ) → Rising l → Rising k → Each (λ x. f x < m) l → Each (λ x. m ≤ f x) k → Rising (l ++ k)

@@ -24,7 +24,7 @@ use Rattle.model.specs.declared.Counters.{Counters}
 use Rattle.model.specs.declared.Queue.{Queue}
 use Rattle.model.specs.Lists.{keep, leading, trailing}
 use Rattle.model.specs.Records.{Entry, Gap, State, gapNumbers, highestOf, withClock, withReturned, withCounters, withLoss}
-use Rattle.model.specs.Rules.{gapsBelow, gapsFrom, dueAt, due, nackDue, tried, rememberedAfter}
+use Rattle.model.specs.Rules.{gapsBelow, gapsFrom, dueAt, due, estimateIn, nackDue, tried, rememberedAfter}
 
 unfoldable pub countLost : ℕ → Counters → Counters
 countLost n c = record { dropped = c .dropped; received = c .received; bytes = c .bytes; lost = c .lost + n }
@@ -101,9 +101,12 @@ afterPoll now s = handOut (front now s (s .entries)) (drained now s)
 
 -- ---- `poll_nack`
 
+unfoldable pub estimateOf : Queue → OptRtt
+estimateOf q = estimateIn (q .config .senders .«has_rtx») (q .rtx .rtt)
+
 -- the gaps for which a NACK goes out
 unfoldable pub dueGaps : ℕ → State → List Gap
-dueGaps now s = keep (due (s .queue .config .settings) (s .queue .rtx .rtt) now) (s .gaps)
+dueGaps now s = keep (due (s .queue .config .settings) (estimateOf (s .queue)) now) (s .gaps)
 
 -- "The due numbers come out ascending by extended number, as 16 bits"
 unfoldable pub nackNumbers : ℕ → State → List ℕ
@@ -111,7 +114,7 @@ nackNumbers now s = map (λ (g : Gap). g .number % 2 ^ 16) (dueGaps now (drained
 
 unfoldable pub nackAll : ℕ → State → State
 nackAll now s =
-    record { queue = s .queue; entries = s .entries; gaps = nackDue (s .queue .config .settings) (s .queue .rtx .rtt) now (s .gaps); remembered = s .remembered }
+    record { queue = s .queue; entries = s .entries; gaps = nackDue (s .queue .config .settings) (estimateOf (s .queue)) now (s .gaps); remembered = s .remembered }
 
 unfoldable pub afterPollNack : ℕ → State → State
 afterPollNack now s = nackAll now (drained now s)

@@ -8,6 +8,7 @@ use Rattle.rtp.specs.Numbers.{guessed}
 use Rattle.rtp.specs.declared.opt.Opt.{Opt}
 use Rattle.rtp.specs.declared.opt.Opt.the-variants.{None, Some}
 use Rattle.rtx_state.specs.declared.OptRtt.{OptRtt}
+use Rattle.rtx_state.specs.declared.OptRtt.the-variants as OptRtt
 use Rattle.rtx_state.specs.RoundTrip.{sampledRtt}
 use Rattle.config.specs.declared.Settings.{Settings}
 use Rattle.config.specs.Timings.{resendDelayOf}
@@ -100,6 +101,11 @@ due set rtt now g = leb (dueAt set rtt g) now
 
 unfoldable pub nacked : ℕ → Gap → Gap
 nacked now g = record { number = g .number; detected = g .detected; nacks = suc (g .nacks); nackedAt = now }
+
+-- a session without RTX measures no round trip
+unfoldable pub estimateIn : Bool → OptRtt → OptRtt
+estimateIn false rtt = OptRtt.None
+estimateIn true rtt = rtt
 
 -- the gaps after a NACK for each that is due
 unfoldable pub nackDue : Settings → OptRtt → ℕ → List Gap → List Gap

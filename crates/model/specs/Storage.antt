@@ -1,6 +1,6 @@
 -- The storage that the caller lends: which record stands in which place (docs/DESIGN.md, "Storage"). Nothing outside this file knows a stride.
 -- Records stand in the order of their list from place 0 on; how many, the session says; unused places hold zeros.
-use mathlib.Core.Bool.{Bool, true, false, cond, _&&_}
+use mathlib.Core.Bool.{Bool, true, false, _&&_}
 use mathlib.Core.List.{List, [], _∷_, map, zipWith}
 use Prim.Native.Nat.{ℕ, zero, suc, _+_, _*_, _/_, _%_}
 use lib.Dec.{eqb}
@@ -85,9 +85,8 @@ entryOf w p =
 unfoldable pub gapWords : Gap → List ℕ
 gapWords g = g .number ∷ g .detected ∷ g .nacks ∷ g .nackedAt ∷ []
 
--- the instant counts where there was a NACK
 unfoldable pub gapOfWords : List ℕ → Gap
-gapOfWords w = record { number = getD w 0 0; detected = getD w 1 0; nacks = getD w 2 0; nackedAt = cond (eqb (getD w 2 0) 0) 0 (getD w 3 0) }
+gapOfWords w = record { number = getD w 0 0; detected = getD w 1 0; nacks = getD w 2 0; nackedAt = getD w 3 0 }
 
 unfoldable pub rememberedWords : Remembered → List ℕ
 rememberedWords r = r .number ∷ r .nackedAt ∷ []
