@@ -1,16 +1,28 @@
 -- Lists by counting: `count n l` is how often n stands in l, and two sorted lists that count alike are equal. The counts are native numbers, so
 -- that one `omega` joins the laws of all lists that a call moves.
-use mathlib.Core.Path.{_≡_, refl, sym, ap, ap₂, _∙_, subst}
+use mathlib.Core.Path.{_≡_, refl, sym, ap, ap₂, _∙_}
 use mathlib.Core.Logic.{_⊎_, inl, inr, _≢_}
-use mathlib.Core.Bool.{cond, not}
+use mathlib.Core.Bool.{Bool, true, false, cond, not}
 use mathlib.Core.List.{List, [], _∷_, _++_}
 use Prim.Native.Nat.{ℕ, zero, suc, _+_, _≤_, _<_}
 use native.Mathlib.Omega.{arith}
-use lib.Dec.{T, leb, eqb, leb→le, nleb→lt, eqb→eq, eqb-refl}
+use lib.Dec.{T, leb, eqb, leb→le, nleb→lt, eqb→eq}
+use lib.Ieee.Bits.{cond-no}
+use borrow.Author.Tests.{eq-eqb}
 use Rattle.model.specs.Lists.{following}
 use Rattle.model.proofs.Lists.{by-cases, eqb-no, no-eqb}
 use Rattle.book.specs.Sorted.{putIn, putAllIn, sort}
-use Rattle.book.proofs.Cases.{cond-yes, cond-no, either, by-zero}
+
+-- ---- cases
+
+pub either : (b : Bool) → T b ⊎ T (not b)
+either true = inl tt
+either false = inr tt
+
+-- a number is 0 or more
+by-zero : {P : Type 0} (k : ℕ) → (k ≡ 0 → P) → (1 ≤ k → P) → P
+by-zero zero f g = f refl
+by-zero (suc k) f g = g (omega arith)
 
 -- ---- counting
 
@@ -20,7 +32,7 @@ same n x = cond (eqb n x) 1 0
 
 pub same-yes : (n x : ℕ) → n ≡ x → same n x ≡ 1
 unfolding same
-same-yes n x e = cond-yes (eqb n x) 1 0 (subst (λ (y : ℕ). T (eqb n y)) e (eqb-refl n))
+same-yes n x e = rw eq-eqb
 
 pub same-no : (n x : ℕ) → n ≢ x → same n x ≡ 0
 unfolding same

@@ -1,13 +1,5 @@
 -- Check 16 as facts, which every accepted call keeps; then demand 3, from the bottom up: counting, parts of a list of gaps, the book alone,
 -- session and book together, the theorem.
-pub mod Sound
-pub mod SoundTest
-pub mod SoundLists
-pub mod SoundQueue
-pub mod SoundPush
-pub mod SoundPoll
-pub mod SoundCalls
-pub mod Cases
 pub mod Count
 pub mod Gaps
 pub mod Tally
@@ -15,3 +7,4 @@ pub mod Past
 pub mod Same
 pub mod Moved
 pub mod Theorem
+pub mod Order

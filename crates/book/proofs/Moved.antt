@@ -24,8 +24,8 @@ use Rattle.model.proofs.Lists.{by-cases, Each, each-first, each-imp, each-inser
 use Rattle.book.specs.Book as B
 use Rattle.book.specs.Book.{Heard, refused, accepted, Span, none, fromTo, Book, arrive, forgottenBy, pushOut, overfull, withinDepth, onMedia, recover, onRepair, giveUp, takeLowest, onPoll, read, enter}
 use Rattle.book.specs.Claim.{hear, given, Forgets, step-over, push-out, ForgetsBy, by-media}
-use Rattle.book.proofs.Sound.{Ahead, ListsOf}
-use Rattle.book.proofs.SoundPush.{waiting-stands}
+use Rattle.model.proofs.Sound.{Ahead, ListsOf}
+use Rattle.model.proofs.SoundPush.{waiting-stands}
 use Rattle.book.proofs.Past.{PastOf, past-advance, past-hand, past-forget}
 use Rattle.book.proofs.Same.{Same, beside, by-same, out?, hear-media, hear-poll, hear-nack}
 

@@ -8,6 +8,7 @@ use Prim.Native.Nat.{ℕ, _+_, _-_, _≤_, _<_}
 use native.Mathlib.Omega.{arith}
 use lib.Arith.{le→nltb}
 use lib.Dec.{T, T-not, not-T, ltb, leb→le, le→leb, ltb→lt}
+use lib.Ieee.Bits.{cond-no}
 use Rattle.rtp.specs.declared.opt.Opt.{Opt}
 use Rattle.rtp.specs.declared.opt.Opt.the-variants.{None, Some}
 use Rattle.config.specs.declared.RtpInboundQueueMode.{RtpInboundQueueMode}
@@ -19,9 +20,8 @@ use Rattle.model.specs.Push.{atOrBelow, passed, mediaPlace}
 use Rattle.model.specs.Poll.{lostBelow}
 use Rattle.model.proofs.Lists.{by-cases, no-eqb, Each, none, more, each-first, each-rest, each-imp, each-append, each-kept, holds-of-some}
 use Rattle.book.specs.Sorted.{AllAbove, Ascending}
-use Rattle.book.proofs.Sound.{Reached, Ahead, Returned, ListsOf}
-use Rattle.book.proofs.SoundPoll.{each-remembered}
-use Rattle.book.proofs.Cases.{cond-no}
+use Rattle.model.proofs.Sound.{Reached, Ahead, Returned, ListsOf}
+use Rattle.model.proofs.SoundPoll.{each-remembered}
 
 -- ---- a number that is not above the last returned
 

@@ -8,6 +8,7 @@ use Prim.Native.Nat.{ℕ, _-_}
 use native.Mathlib.Omega.{arith}
 use lib.Dec.{T, T-not, leb, ltb}
 use lib.ListN.{length, length-map, drop}
+use lib.Ieee.Bits.{is-true, is-false}
 use Rattle.rtp.specs.declared.opt.Opt.{Opt}
 use Rattle.rtp.specs.declared.opt.Opt.the-variants.{None, Some}
 use Rattle.rtp_packet.specs.Header.{sequenceNumber, payloadOf}
@@ -31,8 +32,8 @@ use Rattle.book.specs.Sorted.{putIn}
 use Rattle.book.specs.Book as B
 use Rattle.book.specs.Book.{accepted, Span, none, fromTo, Book, spanAfter, arrive, pushOut, onMedia, recover, tooLate, onRepair, giveUp, takeLowest, onPoll, enter}
 use Rattle.book.specs.Claim.{hear}
-use Rattle.book.proofs.Sound.{ListsOf, ahead-to}
-use Rattle.book.proofs.Cases.{by-cases₂, is-true, is-false, either}
+use Rattle.model.proofs.Sound.{ListsOf, ahead-to}
+use Rattle.book.proofs.Count.{either}
 use Rattle.book.proofs.Past.{gap-ahead, same-place, Past, no-sample, none-forgotten}
 
 pub record Same (c : Config) (s : State) (b : Book) : Type 0 where
@@ -57,6 +58,11 @@ by-same P {c} {s} {b} same p = subst (λ (c : Config). P c b) (same .config) (su
     b′ =
         λ i.
         record { span = b .span; waiting = same .entries i; missing = same .gaps i; handed = b .handed; lost = b .lost; forgotten = b .forgotten; estimate = same .estimate i; remembered = same .remembered i }
+
+-- what holds of two values that go by one test, in both arms
+by-cases₂ {κ} : {A B : Type 0} (P : A → B → Type κ) (b : Bool) {x y : A} {u v : B} → (T b → P x u) → (T (not b) → P y v) → P (cond b x y) (cond b u v)
+by-cases₂ P true f g = f tt
+by-cases₂ P false f g = g tt
 
 -- ---- entries
 

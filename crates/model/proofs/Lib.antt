@@ -2,3 +2,10 @@
 pub mod Lists
 pub mod Laid
 pub mod Kept
+pub mod Sound
+pub mod SoundTest
+pub mod SoundLists
+pub mod SoundQueue
+pub mod SoundPush
+pub mod SoundPoll
+pub mod SoundCalls

@@ -9,3 +9,4 @@ pub mod Storage
 pub mod Calls
 pub mod Table
 pub mod Did
+pub mod Working

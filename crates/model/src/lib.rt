@@ -1,5 +1,7 @@
 // The records of the queue (000) as they go in and come back by value, beside the storage that the caller lends. No code: specs/
 // holds what the queue is, for the contracts and for the theorem over every list of calls alike.
+ghost use Rattle.model.specs.Working.{NeverLocksUp};
+
 use config::Senders;
 use config::Settings;
 use jitter::Jitter;
@@ -59,3 +61,8 @@ pub struct Session {
     pub gaps: usize,
     pub remembered: usize,
 }
+
+// What the opening or an accepted call leaves is never refused under 16 at the next call.
+pub fn never_locks_up()
+    ensures { λ r. ⌜ NeverLocksUp ⌝ }
+{}

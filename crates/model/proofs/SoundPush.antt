@@ -19,16 +19,16 @@ use Rattle.rtp_packet.proofs.Bounds.{payload-fits}
 use Rattle.packet_loss.proofs.Range.{received-in, lost-in}
 use Rattle.config.specs.declared.Settings.{Settings}
 use Rattle.config.specs.declared.RtpInboundQueueMode.{RtpInboundQueueMode}
 use Rattle.model.specs.declared.LastReceived.{LastReceived}
 use Rattle.model.specs.Lists.{some?}
 use Rattle.model.specs.Records.{Entry, Gap, Remembered, State, highestOf, returnedOf}
 use Rattle.model.specs.Rules.{MAX-GAP-SIZE, MAX-LOST-NACKED, is, below, without, gapsFrom, Place, first, near, far, fills, other, placeOf, waits, between, gapsAfter, isOf, forgetFirst}
 use Rattle.model.specs.Push.{passed, insertSorted, mediaPlace, heard, lastAfter, countDropped, countReceived, afterDropped, afterQueued, frontOut, overfull, withinDepth, mediaEntry, afterMedia, Fate, tooLate, recovered, redundant, repairFate, repairEntry, afterFate, afterRepair}
 use Rattle.model.specs.Table.{mediaValues, tooManyGaps, mediaRefusal, fateValues, noPlace, repairRefusal}
 use Rattle.model.proofs.Lists.{by-cases, by-nand, arm-yes, arm-no, Each, none, more, each-first, each-rest, each-keep, empty, rising-keep, length-keep, length-following, length-insert}
-use Rattle.book.proofs.Sound.{Reached, Ahead, ahead-of, By, EntryIn, ListsIn, QueueIn, ListsOf, Sound}
-use Rattle.book.proofs.SoundLists.{reached-gap, later, fewer, remembering, out, fill, come, step, from-ahead}
-use Rattle.book.proofs.SoundQueue.{not-refused, clock-of, counts-of, last-after, last-later, repair-in, late-in, heard-in}
+use Rattle.model.proofs.Sound.{Reached, Ahead, ahead-of, By, EntryIn, ListsIn, QueueIn, ListsOf, Sound}
+use Rattle.model.proofs.SoundLists.{reached-gap, later, fewer, remembering, out, fill, come, step, from-ahead}
+use Rattle.model.proofs.SoundQueue.{not-refused, clock-of, counts-of, last-after, last-later, repair-in, late-in, heard-in}
 
 -- ---- where a media number stands
 

@@ -1,7 +1,7 @@
 -- What check 16 says of a session, as facts: records that name each of them, and each test of a number with the fact that it stands for.
 use mathlib.Core.Logic.{_≢_}
 use mathlib.Core.Bool.{not}
-use mathlib.Core.List.{List, _∷_, map}
+use mathlib.Core.List.{List}
 use Prim.Native.Nat.{ℕ, _*_, _≤_, _<_}
 use native.Mathlib.Omega.{arith}
 use lib.Dec.{T, leb, leb→le, le→leb, nleb→lt, ltb→lt, lt→ltb, not-T}
@@ -16,15 +16,14 @@ use Rattle.jitter.specs.Interarrival.{jitterInRange}
 use Rattle.packet_loss.specs.Loss.{lossInRange}
 use Rattle.config.specs.declared.RtpInboundQueueMode.{RtpInboundQueueMode}
 use Rattle.config.specs.declared.RtpInboundQueueMode.the-variants.{Passthrough, SortedQueue}
 use Rattle.model.specs.declared.Counters.{Counters}
 use Rattle.model.specs.declared.Queue.{Queue}
 use Rattle.model.specs.Records.{Entry, Gap, Remembered, State, highestOf, returnedOf}
 use Rattle.model.specs.Rules.{MAX-LOST-NACKED}
 use Rattle.model.specs.Push.{atOrBelow, passed}
 use Rattle.model.specs.Valid.{atMost, under, byClock, lastSound, returnedSound}
 use Rattle.model.specs.Table.{configValid}
-use Rattle.book.specs.Sorted.{AllAbove, Ascending}
-use Rattle.model.proofs.Lists.{Each, none, more, Rising, empty, above}
+use Rattle.model.proofs.Lists.{Each, Rising}
 
 -- ---- numbers and instants
 
@@ -175,16 +174,3 @@ pub record Sound (s : State) : Type 0 where
   pub fits : Fits s
   pub queue-in : QueueIn (s .queue)
   pub lists-in : ListsOf s
-
--- ---- the order in the words of the claim
-
-module _ {A : Type 0} (f : A → ℕ) where
-  chain : {x : A} {l : List A} → Rising f (x ∷ l) → AllAbove (f x) (map f l)
-  unfolding AllAbove
-  chain (above none r) = tt
-  chain (above (more h t) r) = (h, chain r)
-
-  pub rising-ascending : {l : List A} → Rising f l → Ascending (map f l)
-  unfolding Ascending
-  rising-ascending empty = tt
-  rising-ascending (above h r) = chain (above h r)

@@ -10,12 +10,12 @@ use Rattle.rtp.specs.declared.opt.Opt.{Opt}
 use Rattle.rtp.specs.declared.opt.Opt.the-variants.{None, Some}
 use Rattle.config.specs.declared.RtpInboundQueueMode.{RtpInboundQueueMode}
 use Rattle.config.specs.declared.RtpInboundQueueMode.the-variants.{Passthrough, SortedQueue}
 use Rattle.model.specs.Lists.{some?}
 use Rattle.model.specs.Records.{Entry, Gap, Remembered}
 use Rattle.model.specs.Rules.{is, below, without, gapsFrom, between, fresh}
 use Rattle.model.specs.Push.{insertSorted}
 use Rattle.model.proofs.Lists.{eqb-no, Each, each-first, each-rest, each-imp, each-both, each-append, each-keep, each-kept, each-map, Rising, rising-first, rising-rest, rising-keep, rising-append, rising-map, each-following, rising-following, each-insert, rising-insert, holds-of-some}
-use Rattle.book.proofs.Sound.{Reached, Under, Ahead, Returned, By, GapIn, EntryIn, RememberedIn, Apart, ListsIn}
+use Rattle.model.proofs.Sound.{Reached, Under, Ahead, Returned, By, GapIn, EntryIn, RememberedIn, Apart, ListsIn}
 
 -- ---- one element
 

@@ -16,16 +16,16 @@ use Rattle.jitter.specs.Interarrival.{jitterInRange}
 use Rattle.packet_loss.specs.Loss.{lossInRange}
 use Rattle.config.specs.declared.RtpInboundQueueMode.{RtpInboundQueueMode}
 use Rattle.config.specs.Valid.{within, longest, settingsValid, sendersValid}
 use Rattle.model.specs.declared.Config.{Config}
 use Rattle.model.specs.declared.Counters.{Counters}
 use Rattle.model.specs.declared.Queue.{Queue}
 use Rattle.model.specs.Lists.{some?, every?}
 use Rattle.model.specs.Records.{Entry, Gap, Remembered, State, entryNumbers, gapNumbers, highestOf, returnedOf}
 use Rattle.model.specs.Rules.{is, MAX-LOST-NACKED}
 use Rattle.model.specs.Valid.{atMost, under, notPassed, byClock, entrySound, gapSound, rememberedSound, lastSound, returnedSound, countersSound, queueSound, countsFit, sound}
 use Rattle.model.specs.Table.{configValid}
 use Rattle.model.proofs.Lists.{Each, each-imp, each-both, each-of-every, every-of-each, rising-of-ascends, ascends-of-rising, apart-of-not-some, not-some-of-apart}
-use Rattle.book.proofs.Sound.{Returned, reached-of, reached-to, under-of, under-to, ahead-of, ahead-to, returned-of, returned-to, by-of, by-to, GapIn, EntryIn, Apart, RememberedIn, CountersIn, RtxIn, QueueIn, Fits, Sound}
+use Rattle.model.proofs.Sound.{Returned, reached-of, reached-to, under-of, under-to, ahead-of, ahead-to, returned-of, returned-to, by-of, by-to, GapIn, EntryIn, Apart, RememberedIn, CountersIn, RtxIn, QueueIn, Fits, Sound}
 
 -- ---- a chain of tests
 

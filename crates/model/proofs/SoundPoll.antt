@@ -14,14 +14,14 @@ use Rattle.packet_loss.proofs.Range.{lost-in}
 use Rattle.config.specs.declared.Settings.{Settings}
 use Rattle.config.specs.declared.RtpInboundQueueMode.{RtpInboundQueueMode}
 use Rattle.config.specs.declared.RtpInboundQueueMode.the-variants.{Passthrough, SortedQueue}
 use Rattle.model.specs.Records.{Entry, Gap, Remembered, State, returnedOf}
 use Rattle.model.specs.Rules.{MAX-LOST-NACKED, below, gapsBelow, gapsFrom, due, nacked, nackDue, tried, latest, remember, rememberedAfter}
 use Rattle.model.specs.Poll.{estimateOf, countLost, lose, givenUp, notGivenUp, drained, ready, front, lostBelow, leftFrom, handOut, afterPoll, nackAll, afterPollNack}
 use Rattle.model.specs.Table.{lostWith, pollRefusal, pollNackRefusal}
 use Rattle.model.proofs.Lists.{by-cases, Each, none, each-first, each-imp, each-append, each-drop, each-keep, each-trailing, each-map, Rising, rising-keep, rising-trailing, length-keep, length-trailing}
-use Rattle.book.proofs.Sound.{Ahead, GapIn, Apart, RememberedIn, Sound}
-use Rattle.book.proofs.SoundLists.{later, fewer, changed, remembering, out, from-ahead}
-use Rattle.book.proofs.SoundQueue.{clock-of, counts-of, last-later, under-fits}
+use Rattle.model.proofs.Sound.{Ahead, GapIn, Apart, RememberedIn, Sound}
+use Rattle.model.proofs.SoundLists.{later, fewer, changed, remembering, out, from-ahead}
+use Rattle.model.proofs.SoundQueue.{clock-of, counts-of, last-later, under-fits}
 
 abbrev gapNumber : Gap → ℕ
 gapNumber g = g .number

@@ -14,18 +14,18 @@ use Rattle.jitter.proofs.Range.{updated-in}
 use Rattle.rtx_state.specs.declared.OptRtt.{OptRtt}
 use Rattle.rtx_state.specs.RoundTrip.{optRttInRange}
 use Rattle.rtx_state.proofs.Range.{sampled-in}
 use Rattle.model.specs.declared.LastReceived.{LastReceived}
 use Rattle.model.specs.declared.LastReceived.the-variants as LastReceived
 use Rattle.model.specs.declared.Queue.{Queue}
 use Rattle.model.specs.Lists.{some?}
 use Rattle.model.specs.Records.{Gap, Remembered, highestOf}
 use Rattle.model.specs.Rules.{Place, first, near, far, fills, other, rttAfterRepair, rttAfterLate}
 use Rattle.model.specs.Push.{jitterAfter, heard, lastAfter}
 use Rattle.model.specs.Valid.{lastSound}
 use Rattle.model.specs.Table.{refuseIf, clockRefusal, countRefusal}
 use Rattle.model.proofs.Lists.{by-cases, by-nor, Each, each-imp, each-not-of-some}
-use Rattle.book.proofs.Sound.{Under, QueueIn}
-use Rattle.book.proofs.SoundTest.{rate-of}
+use Rattle.model.proofs.Sound.{Under, QueueIn}
+use Rattle.model.proofs.SoundTest.{rate-of}
 
 -- ---- checks that pass
 

@@ -20,21 +20,21 @@ use Rattle.durations.proofs.Bound.{zero-is}
 use Rattle.jitter.specs.Interarrival.{newJitter, jitterWithin, jitterInRange}
 use Rattle.packet_loss.specs.Loss.{newLoss, lossInRange}
 use Rattle.rtx_state.specs.RoundTrip.{optRttInRange}
 use Rattle.model.specs.declared.Config.{Config}
 use Rattle.model.specs.Records.{State, newQueue, newState, highestOf, returnedOf}
 use Rattle.model.specs.Valid.{lastSound, countsFit, sound}
 use Rattle.model.specs.Storage.{Stored, lengthsFit, parse, write}
 use Rattle.model.specs.Calls.{Call, media, repair, poll, pollNack, timeoutReceive, timeoutNack, rtxStats, highestReceived, taken}
 use Rattle.model.specs.Table.{refuseIf, configValid, sessionSound, sessionRefusal, callRefusal, refusal, openingRefusal}
 use Rattle.model.specs.Did.{accepted, did}
 use Rattle.model.proofs.Laid.{Fits, parse-write, lengths-write}
 use Rattle.model.proofs.Lists.{not-not, Each, none, more, each-imp, empty}
-use Rattle.book.specs.Claim.{NeverLocksUp}
-use Rattle.book.proofs.Sound.{Returned, Sound}
-use Rattle.book.proofs.SoundTest.{sound-of, sound-to, fits-to, rate-of}
-use Rattle.book.proofs.SoundQueue.{not-refused}
-use Rattle.book.proofs.SoundPush.{media-sound, repair-sound}
-use Rattle.book.proofs.SoundPoll.{poll-sound, poll-nack-sound}
+use Rattle.model.specs.Working.{NeverLocksUp}
+use Rattle.model.proofs.Sound.{Returned, Sound}
+use Rattle.model.proofs.SoundTest.{sound-of, sound-to, fits-to, rate-of}
+use Rattle.model.proofs.SoundQueue.{not-refused}
+use Rattle.model.proofs.SoundPush.{media-sound, repair-sound}
+use Rattle.model.proofs.SoundPoll.{poll-sound, poll-nack-sound}
 
 -- ---- the opening
 
@@ -129,7 +129,7 @@ unfolding refusal
 left-sound k m e = taken-sound k (parse m) (accepted-sound k m e) (orElse-none _ _ e .1)
 
 -- an accepted call leaves what is written of `taken`
-did-taken : (k : Call) (m : Stored) → refusal k m ≡ 0 → did k m .stored ≡ write (taken k (parse m))
+pub did-taken : (k : Call) (m : Stored) → refusal k m ≡ 0 → did k m .stored ≡ write (taken k (parse m))
 unfolding did accepted
 did-taken k m e = rw (eq-eqb (refusal k m) 0 e)
 
