@@ -15,6 +15,8 @@ use Rattle.words.proofs.Over.{over-all}
 use Rattle.words.proofs.Moves.{length-padded}
 use Rattle.words.proofs.Padded.{take-padded}
 use Rattle.words.proofs.Blocked.{length-blocks, length-flat, blocks-padded}
+use Rattle.words.proofs.Lists.{spelled}
+use Rattle.words.proofs.Records.{Coded}
 use Rattle.words.proofs.Ordered.{and-left, and-right}
 use Rattle.rtp.specs.declared.opt.Opt.{Opt}
 use Rattle.rtp.specs.declared.opt.Opt.the-variants.{None, Some}
@@ -31,7 +33,7 @@ use Rattle.model.specs.Storage.{Storage, Stored, ENTRY-WORDS, PAYLOAD-BY
 unfoldable pub Fits : Entry → Type 0
 Fits e = length (e .payload) ≤ PAYLOAD-BYTES
 
-gap-back : (g : Gap) → gapOfWords (gapWords g) ≡ g
+pub gap-back : (g : Gap) → gapOfWords (gapWords g) ≡ g
 unfolding gapOfWords gapWords
 gap-back g = refl
 
@@ -84,6 +86,11 @@ module _ {A : Type 0} (w : ℕ) (enc : A → List ℕ) (wide : (x : A) → lengt
 pub gap-wide : (g : Gap) → length (gapWords g) ≡ GAP-WORDS
 unfolding gapWords
 gap-wide g = refl
+
+-- a gap's words are its fields in turn, so nothing is lost either way
+pub gap-coded : Coded GAP-WORDS gapOfWords gapWords
+unfolding gapOfWords gapWords
+gap-coded = record { wide = gap-wide; back = gap-back; forth = spelled GAP-WORDS }
 
 pub remembered-wide : (r : Remembered) → length (rememberedWords r) ≡ REMEMBERED-WORDS
 unfolding rememberedWords

@@ -169,6 +169,11 @@ module _ {A : Type 0} (w : ℕ) (of : List ℕ → A) (enc : A → List ℕ) (c 
   enc-of [] e = refl
   enc-of (b ∷ bs) e = rw (c .forth b (e .0), enc-of bs (e .1))
 
+  -- tidied, a slice holds the records that it held
+  pub tidied-laid : (n : ℕ) (s : List ℕ) → w * n ≤ length s → padded (length s) (take (w * n) s) ≡ laid enc (length s) (recordsOf of w s n)
+  unfolding recordsOf laid
+  tidied-laid n s h = ap (padded (length s)) (sym (ap flat (enc-of (blocks w s n) (even-blocks w n s h)) ∙ flat-blocks w n s))
+
   -- a tidy slice holds the records that are read of it
   pub holds-coded : (n : ℕ) (s : List ℕ) → Tidy s (w * n) → Holds w enc s n (recordsOf of w s n)
   unfolding recordsOf laid
