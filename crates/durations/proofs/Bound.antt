@@ -3,15 +3,15 @@ use mathlib.Core.Path.{_≡_, refl, sym, subst}
 use mathlib.Core.Logic.{inl}
 use mathlib.Core.Bool.{Bool, true, false, cond}
 use Prim.Native.Nat.{ℕ, _+_, _*_, _/_, _%_, _≤_, _<_, _^_}
-use native.Mathlib.Nat.{le-refl, le-trans, le-of-eq, mul-right-comm, mul-le-mul-right}
+use native.Mathlib.Nat.{le-trans, le-of-eq, mul-right-comm, mul-le-mul-right}
 use native.Mathlib.Omega.{arith}
-use lib.IntN.{pos, negsuc}
+use lib.IntN.{pos}
 use lib.Dec.{T, lit≤, lit<}
-use lib.Ieee.{Float, fin, binary64, ofBits, ofInt, mul, div, le, lt}
+use lib.Ieee.{Float, fin, binary64, ofBits, ofInt, div, le, lt}
 use lib.Ieee.Nearest.{closest, closest-mono}
 use lib.Ieee.Positive.{num, den, den-pos}
 use Rattle.float_laws.proofs.Closest.{closest-whole}
-use Rattle.float_laws.proofs.Upto.{NonNeg, Upto, nought, nought-le, nlt→cross, lt-of-upto, ofInt-upto, upto-more, whole-to, add-upto, mul-upto, div-upto}
+use Rattle.float_laws.proofs.Upto.{NonNeg, Upto, nought, nought-le, nlt→cross, lt-of-upto, ofInt-upto, upto-more, whole-to, add-upto, div-upto}
 use Rattle.durations.specs.Seconds.{asSecsF64, giga, giga64, zero64, limit, nearestNanos, fromSecsF64}
 use Rattle.durations.specs.declared.FromSecs.the-variants.{Nanos, Refused}
 

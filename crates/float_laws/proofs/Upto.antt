@@ -1,7 +1,6 @@
 -- Floats that are finite and not below zero, -0 among them, and bounds on them by fractions. `lib.Ieee.Positive` has the like for floats above zero alone, and no sum.
 -- `Upto x b d` says that x is such a float and is at most b / d. A sum, product, difference or quotient of such floats is `Rounds`: one fraction, rounded once.
 -- `round-upto` then bounds it by B / D, where the exact fraction is at most some b / d that rounds to B / D (`To`; at a number that the format holds, `whole-to` or `(refl, refl)`).
--- Assumes nothing.
 use mathlib.Core.Path.{_≡_, refl, sym, ap, _∙_, subst}
 use mathlib.Core.Logic.{_⊎_, inl, inr}
 use mathlib.Core.Bool.{Bool, true, false, not, _&&_, _||_, Bool·beq, cond, true≢false}
@@ -143,10 +142,6 @@ Rounds f z a c = (s : Bool) × (z ≡ round f s a c) × Signless s a
 -- b / d rounds to B / D. At numerals `(refl, refl)` proves it, under `unfolding round`
 abbrev pub To : Format → ℕ → ℕ → ℕ → ℕ → Type 0
 To f b d B D = HasValue (round f false b d) false B D
-
--- the format holds b / d
-abbrev pub Exact : Format → ℕ → ℕ → Type 0
-Exact f b d = To f b d b d
 
 pub nonneg-of-value : (x : Float) (a c : ℕ) → HasValue x false a c → NonNeg x
 nonneg-of-value nan a c h = absurd h

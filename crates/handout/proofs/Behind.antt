@@ -2,14 +2,14 @@
 use mathlib.Core.Path.{_≡_, refl, sym, _∙_, subst}
 use mathlib.Core.Logic.{inl}
 use mathlib.Core.Bool.{Bool, true, false, cond}
-use Prim.Native.Nat.{ℕ, zero, suc, _*_, _≤_, _<_, _^_}
+use Prim.Native.Nat.{ℕ, _*_, _≤_, _^_}
 use native.Mathlib.Nat.{le-trans, le-of-eq, mul-one, mul-le-mul-right, one-mul}
 use native.Mathlib.Omega.{arith}
 use lib.IntN.{pos}
-use lib.Dec.{T, lit≤, lit<}
-use lib.Ieee.{Float, binary64, ofInt, sub, div, lt}
-use lib.Ieee.Positive.{num, den, positive, value→cross, positive-of-value}
-use Rattle.float_laws.proofs.Upto.{NonNeg, Upto, nought, ofInt-upto, ofInt-value, upto-more, whole-to, over-upto}
+use lib.Dec.{lit≤, lit<}
+use lib.Ieee.{Float, binary64, ofInt, sub, lt}
+use lib.Ieee.Positive.{num, den, value→cross, positive-of-value}
+use Rattle.float_laws.proofs.Upto.{NonNeg, Upto, ofInt-upto, ofInt-value, upto-more, whole-to, over-upto}
 use Rattle.float_laws.proofs.Size.{Size, size-of-upto, sub-size, above-upto}
 use Rattle.durations.specs.Seconds.{largest, zero64}
 use Rattle.durations.proofs.Bound.{zero-is}

@@ -5,9 +5,9 @@ use Prim.Native.Nat.{ℕ, zero, suc, _+_, _-_, _^_, _≤_, _<_}
 use native.Mathlib.Omega.{arith}
 use borrow.Author.Tests.{ltb-true}
 use lib.Dec.{T, ltb, lit≤, lit<}
-use lib.IntN.{ℤ, pos, negsuc, negℤ, natAbs, _+ℤ_, _-ℤ_}
+use lib.IntN.{ℤ, pos, negsuc, natAbs, _+ℤ_, _-ℤ_}
 use lib.Signed.{mag, ltZ, nonNeg, quotZ, remZ}
-use lib.Ieee.{Float, fin, binary64, ofInt, mul, div, toSigned}
+use lib.Ieee.{Float, binary64, ofInt, mul, div, toSigned}
 use mir.Syntax.{w64}
 use mir.Val.{Fits, SFits, toZ, ofZ}
 use mir.ValLaws.{toZ-ofZ}

@@ -3,7 +3,6 @@ ghost use mathlib.Core.Path.{_≡_};
 ghost use Prim.Native.Nat.{_≤_, _<_, _^_};
 ghost use lib.IntN.{pos, _+ℤ_};
 ghost use lib.Signed.{mag};
-ghost use lib.Ieee.{Float};
 ghost use Rattle.durations.specs.Seconds.{largest, fromSecsF64};
 ghost use Rattle.config.specs.Valid.{longest};
 ghost use Rattle.handout.specs.Limit.{deltaInRtpTimesteps, asTimestamp, mapInstantToRtpTimestamp, maxTimestamp};
@@ -28,7 +27,7 @@ pub fn max_timestamp(
 }
 
 // The timestamp that stands at `instant`, which may be below 0; none where it would be negative.
-pub fn map_instant_to_rtp_timestamp(
+fn map_instant_to_rtp_timestamp(
     reference_instant: u64,
     reference_timestamp: ExtendedRtpTimestamp,
     clock_rate: u32,

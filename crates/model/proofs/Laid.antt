@@ -57,7 +57,7 @@ unfolding bit
 odd n true = let e : (2 * n + 1) % 2 ≡ 1 = omega arith in rw e
 odd n false = let e : (2 * n + 0) % 2 ≡ 0 = omega arith in rw e
 
-padded-self : (p : List ℕ) → padded (length p) p ≡ p
+pub padded-self : (p : List ℕ) → padded (length p) p ≡ p
 unfolding padded
 padded-self p = over-all p _ (sym (length-replicate (length p) 0))
 

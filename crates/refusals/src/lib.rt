@@ -1,4 +1,4 @@
-// The numbers under which a call is refused: the table "Where a call is turned back" of docs/01-scope.md, each with its words there.
+// The numbers under which a call is refused: the table "Where a call is turned back" of document 01, each with its words there.
 // A refused call returns its number only; session, clock and every lent buffer are unchanged. 0 is no refusal.
 ghost use mathlib.Core.Path.{_≡_};
 ghost use Rattle.refusals.specs.Refusals.{orElse};

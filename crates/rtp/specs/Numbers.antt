@@ -1,7 +1,6 @@
 -- 01, "Numbers": a number of w bits extended to 64 by a reference. w is 16 for sequence numbers and 32 for timestamps.
 use mathlib.Core.Bool.{cond}
 use mathlib.Core.Path.{_≡_}
-use mathlib.Core.List.{List, [], _∷_, map}
 use Prim.Native.Nat.{ℕ, _+_, _-_, _*_, _/_, _%_, _^_, _≤_, _<_}
 use lib.Dec.{ltb}
 
@@ -44,19 +43,3 @@ pub record Extends (w : ℕ) : Type 0 where
       (reference got : ℕ) → apart reference (base w reference got) ≤ apart reference (guessed w reference got) → guessed w reference got ≡ base w reference got
   -- in cycle 0 the lower rival is never chosen
   pub cycle-zero : (reference got : ℕ) → reference < 2 ^ w → got < 2 ^ w → guessed w reference got ≡ nearer reference got (got + 2 ^ w)
-
--- 01, "Examples": reference, number, and what it is extended to
-pub record Row : Type 0 where
-  pub reference : ℕ
-  pub number : ℕ
-  pub extended : ℕ
-
-abbrev row : ℕ → ℕ → ℕ → Row
-row reference number extended = record { reference = reference; number = number; extended = extended }
-
-abbrev pub rows : List Row
-rows = row 65535 0 65536 ∷ row 65540 65535 65535 ∷ row 65536 32768 98304 ∷ row 98304 0 65536 ∷ row 5 65530 65530 ∷ []
-
--- every row holds of 16-bit numbers
-abbrev pub RowsHold : Type 0
-RowsHold = map (λ (r : Row). guessed 16 (r .reference) (r .number)) rows ≡ map (λ (r : Row). r .extended) rows

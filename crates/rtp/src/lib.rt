@@ -3,7 +3,7 @@
 ghost use mathlib.Core.Path.{_≡_};
 ghost use Prim.Native.Nat.{ℕ, _+_, _%_, _^_, _≤_, _<_};
 ghost use Rattle.rtp.specs.Numbers as Numbers;
-ghost use Rattle.rtp.specs.Numbers.{apart, guessed, Extends, RowsHold};
+ghost use Rattle.rtp.specs.Numbers.{apart, guessed, Extends};
 
 pub mod opt;
 
@@ -93,9 +93,4 @@ fn wrapping_counter_to_u64_counter(reference: u64, got: u64, bits: u32) -> u64
 // Nothing is computed: what it ensures is the law of `guess_extended`, over the width.
 fn extends()
     ensures { λ r. ⌜ ((w : ℕ) → w ≤ 62 → Extends w) ⌝ }
-{}
-
-// 01's examples on numbers.
-fn rows()
-    ensures { λ r. ⌜ RowsHold ⌝ }
 {}

@@ -1,7 +1,6 @@
 -- RFC 4588, section 4: the payload of a repair is the original sequence number (OSN), two bytes, and then the original payload.
-use mathlib.Core.Path.{_≡_}
 use mathlib.Core.Bool.{cond}
-use mathlib.Core.List.{List, [], _∷_, map}
+use mathlib.Core.List.{List}
 use Prim.Native.Nat.{ℕ}
 use lib.Dec.{eqb, ltb}
 use lib.ListN.{length, drop}
@@ -23,22 +22,3 @@ originalPayload p = drop 2 p
 -- 01's number and values for each case of the answer
 unfoldable pub originalOf : List ℕ → Original
 originalOf p = cond (eqb (originalRefusal p) 0) (Number (record { 0 = originalNumber p })) (Refused (originalRefusal p))
-
--- ---- 01's examples: "repair payload 00 0B (hexadecimal): number 11, empty payload. Payload 00: refusal 11."
-
-pub record Row : Type 0 where
-  pub repair : List ℕ
-  pub answer : Original
-  pub rest : List ℕ
-
-abbrev pub rows : List Row
-rows =
-    record { repair = 0 ∷ 11 ∷ []; answer = Number (record { 0 = 11 }); rest = [] }
-    ∷ record { repair = 0 ∷ []; answer = Refused NO-ORIGINAL-NUMBER; rest = [] }
-    ∷ []
-
-abbrev read : Row → Row
-read r = record { repair = r .repair; answer = originalOf (r .repair); rest = originalPayload (r .repair) }
-
-abbrev pub RowsHold : Type 0
-RowsHold = map read rows ≡ rows

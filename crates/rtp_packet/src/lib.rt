@@ -3,7 +3,7 @@
 ghost use mathlib.Core.Path.{_≡_};
 ghost use Rattle.rtp_packet.specs.Header.{between};
 ghost use Rattle.rtp_packet.specs.Datagram.{LARGEST-PAYLOAD, LARGEST-REPAIR, wrongPadding, datagramRefusal, packetOf, parsed};
-ghost use Rattle.rtp_packet.specs.Original.{originalOf, originalPayload, RowsHold};
+ghost use Rattle.rtp_packet.specs.Original.{originalOf, originalPayload};
 ghost use Rattle.rtp_packet.specs.OneBit.{OneBit};
 
 mod header;
@@ -168,9 +168,4 @@ pub fn original_payload(payload: &[u8]) -> &[u8]
 // Nothing is computed: what it ensures is the law that one changed bit of version, payload type or SSRC is refused.
 pub fn one_bit()
     ensures { λ _. ⌜ OneBit ⌝ }
-{}
-
-// 01's examples on repair payloads.
-fn rows()
-    ensures { λ _. ⌜ RowsHold ⌝ }
 {}

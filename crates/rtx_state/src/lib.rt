@@ -89,11 +89,6 @@ impl OptRtt {
     }
 }
 
-// 01's example of an estimate.
-fn rows()
-    ensures { λ r. ⌜ RowHolds ⌝ }
-{}
-
 pub struct RtxState {
     pub rtt: OptRtt,
     pub received_in_time: u64,
@@ -106,6 +101,7 @@ pub struct RtxState {
 impl RtxState {
     pub fn new() -> RtxState
         ensures { λ r. ⌜ r ≡ newRtxState ⌝ }
+        ensures { λ r. ⌜ T (rtxInRange r) ⌝ }
     {
         RtxState {
             rtt: OptRtt::None,
@@ -118,6 +114,7 @@ impl RtxState {
 
     pub fn update_rtt(self, sample: u64) -> RtxState
         ensures { λ r. ⌜ r ≡ updateRtt self sample ⌝ }
+        ensures { λ r. ⌜ (T (rtxInRange self) → sample ≤ largest → T (rtxInRange r)) ⌝ }
     {
         let rtt = self.rtt;
         RtxState {
@@ -187,3 +184,8 @@ fn srtt_of(rtt: OptRtt) -> Opt
         OptRtt::Some(rtt) => Opt::Some(rtt.srtt),
     }
 }
+
+// 01's example of an estimate.
+fn rows()
+    ensures { λ r. ⌜ RowHolds ⌝ }
+{}

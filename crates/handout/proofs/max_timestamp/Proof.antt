@@ -1,12 +1,12 @@
 -- `max_timestamp`: now less the delay is below 2 ^ 53 in size.
 use mathlib.Core.Path.{_≡_, sym, ap, _∙_, subst}
-use Prim.Native.Nat.{ℕ, _<_, _^_}
+use Prim.Native.Nat.{_<_, _^_}
 use native.Mathlib.Omega.{arith}
 use borrow.Author.Needs.{needs}
 use lib.IntN.{ℤ, pos, _-ℤ_}
 use lib.Signed.{mag}
 use mir.Syntax.{w64}
-use mir.Val.{toZ, ofZ}
+use mir.Val.{toZ}
 use mir.ValLaws.{toZ-pos}
 use Rattle.handout.specs.Limit.{mapInstantToRtpTimestamp, maxTimestamp}
 use Rattle.handout.proofs.Signed.{diff-mag, fits, back}

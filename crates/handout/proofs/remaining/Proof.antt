@@ -1,5 +1,4 @@
 -- `remaining`: the branches are those of the definition; where the difference would be below 0, it is 0.
-use mathlib.Core.Path.{_≡_}
 use native.Mathlib.Omega.{arith}
 use borrow.Author.Needs.{needs}
 use borrow.Author.Tests.{le-leb, lt-leb}

@@ -1,11 +1,9 @@
 -- `timeout_receive`: a delta that is refused is 2 ^ 26 s or more, which is past 2 ^ 53 ns.
-use mathlib.Core.Path.{_≡_, sym, ap, _∙_}
-use Prim.Native.Nat.{ℕ, _*_, _≤_, _<_, _^_}
-use native.Mathlib.Nat.{lt-of-lt-of-le}
+use mathlib.Core.Path.{sym, ap, _∙_}
+use Prim.Native.Nat.{ℕ, _*_, _≤_, _^_}
 use native.Mathlib.Omega.{arith}
 use borrow.Author.Needs.{needs}
 use borrow.Author.Tests.{lt-leb}
-use lib.Dec.{lit<}
 use Rattle.durations.specs.Seconds.{giga, nearestNanos}
 use Rattle.durations.proofs.Bound.{nanos-are, refused-past}
 use Rattle.handout.specs.Timeout.{behind, remainingOf, timeoutReceive}

@@ -1,5 +1,5 @@
 -- `jitter`: the test is what `get` asks.
-use mathlib.Core.Path.{_≡_, sym, _∙_, subst}
+use mathlib.Core.Path.{sym, _∙_, subst}
 use Prim.Native.Nat.{_≤_, _<_, _%_, _^_}
 use native.Mathlib.Omega.{arith}
 use lib.Dec.{T}

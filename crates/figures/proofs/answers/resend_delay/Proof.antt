@@ -1,5 +1,5 @@
 -- `resend_delay`: the test is what the delay asks.
-use mathlib.Core.Path.{_≡_, sym, _∙_, subst}
+use mathlib.Core.Path.{sym, _∙_, subst}
 use lib.Dec.{T}
 use borrow.Author.Needs.{needs}
 use Rattle.figures.proofs.answers.resend_delay.Statement.{statement}

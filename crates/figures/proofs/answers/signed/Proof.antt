@@ -1,6 +1,6 @@
 -- `signed`: what is below 2 ^ 52 can be negated.
-use mathlib.Core.Path.{_≡_, ap}
-use Prim.Native.Nat.{ℕ, _<_, _^_}
+use mathlib.Core.Path.{ap}
+use Prim.Native.Nat.{_<_, _^_}
 use native.Mathlib.Omega.{arith}
 use lib.Dec.{lit<}
 use lib.IntN.{ℤ, pos, _-ℤ_}

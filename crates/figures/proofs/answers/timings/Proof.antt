@@ -1,5 +1,5 @@
 -- `timings`: the test is what the timings ask.
-use mathlib.Core.Path.{_≡_, sym, _∙_, subst}
+use mathlib.Core.Path.{sym, _∙_, subst}
 use lib.Dec.{T}
 use borrow.Author.Needs.{needs}
 use Rattle.figures.proofs.answers.timings.Statement.{statement}

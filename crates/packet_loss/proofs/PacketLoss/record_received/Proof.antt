@@ -1,5 +1,5 @@
 -- `record_received`: the equation is the callee's, and the range is kept by `received-in`.
-use mathlib.Core.Path.{_≡_, sym, ap, subst}
+use mathlib.Core.Path.{_≡_, sym, subst}
 use borrow.Author.Needs.{needs}
 use lib.Dec.{T}
 use Rattle.packet_loss.specs.Loss.{recordReceived, lossInRange}

@@ -1,5 +1,0 @@
-pub mod Laws
-pub mod Opening
-pub mod Turns
-pub mod Scan
-pub mod Writing

@@ -1,2 +1,0 @@
-pub mod Gaps
-pub mod Sound
