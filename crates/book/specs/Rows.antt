@@ -1,6 +1,7 @@
--- 01, "Examples": the rows marked P, as one table. Rows on media numbers are real calls on a newly opened session in its storage.
+-- 01, "Examples": the rows marked P, as one table, and the row on the initial delay. Rows on media numbers are real calls on a newly opened
+-- session in its storage.
 use mathlib.Core.Path.{_≡_}
-use mathlib.Core.Bool.{true, cond}
+use mathlib.Core.Bool.{Bool, true, false, cond}
 use mathlib.Core.List.{List, [], _∷_, map, foldl}
 use Prim.Native.Nat.{ℕ, _/_, _%_}
 use lib.Dec.{eqb}
@@ -12,7 +13,7 @@ use Rattle.rtx_state.specs.RoundTrip.{sampledRtt}
 use Rattle.config.specs.declared.RtpInboundQueueMode.the-variants.{SortedQueue}
 use Rattle.rtp_packet.specs.Original.{originalRefusal, originalNumber, originalPayload}
 use Rattle.model.specs.declared.Config.{Config}
-use Rattle.model.specs.Rules.{extended}
+use Rattle.model.specs.Rules.{extended, fresh, due}
 use Rattle.model.specs.Storage.{parse}
 use Rattle.model.specs.Calls.{media}
 use Rattle.book.specs.Sorted.{sort}
@@ -29,6 +30,8 @@ pub data Question : Type 0 where
   lists : (D : ℕ) → List ℕ → Question
   samples : List ℕ → Question
   repairPayload : List ℕ → Question
+  -- a gap that was never NACKed
+  nackDue : (initialDelay detected now : ℕ) → Question
 
 pub data Found : Type 0 where
   number : ℕ → Found
@@ -37,6 +40,7 @@ pub data Found : Type 0 where
   estimate : OptRtt → Found
   original : (number : ℕ) (payload : List ℕ) → Found
   refused : ℕ → Found
+  isDue : Bool → Found
 
 pub record Row : Type 0 where
   pub asked : Question
@@ -68,16 +72,19 @@ rows =
     ∷ record { asked = repairPayload (0x00 ∷ 0x0b ∷ []); said = original 11 [] }
     -- "Payload 00: refusal 11"
     ∷ record { asked = repairPayload (0x00 ∷ []); said = refused 11 }
+    -- "Initial delay 5,000,000, detected at 0: due at 5,000,000, not at 4,999,999" (not marked P)
+    ∷ record { asked = nackDue 5000000 0 5000000; said = isDue true }
+    ∷ record { asked = nackDue 5000000 0 4999999; said = isDue false }
     ∷ []
 
 -- ---- what is found
 
 -- a session of depth D, with room for the fewest gaps that the opening takes; sender and payload type are 0
-abbrev pub config : ℕ → Config
-config D =
+abbrev pub config : ℕ → ℕ → Config
+config D initialDelay =
     record {
       settings =
-          record { mode = SortedQueue; «clock_rate» = 8000; «max_entries» = D; «max_gaps» = 999; delay = 100000000; «initial_nack_delay» = 5000000; «default_nack_resend_delay» = 20000000; «max_nack_attempts» = 10; «nack_window» = 1000000000 };
+          record { mode = SortedQueue; «clock_rate» = 8000; «max_entries» = D; «max_gaps» = 999; delay = 100000000; «initial_nack_delay» = initialDelay; «default_nack_resend_delay» = 20000000; «max_nack_attempts» = 10; «nack_window» = 1000000000 };
       senders = record { pt = 0; ssrc = record { 0 = 0 }; «has_rtx» = true; «rtx_pt» = 1; «rtx_ssrc» = record { 0 = 1 } };
     }
 
@@ -87,7 +94,7 @@ datagram n = 0x80 ∷ 0 ∷ n / 256 ∷ n % 256 ∷ 0 ∷ 0 ∷ 0 ∷ 0 ∷ 0 �
 
 -- media packets with these numbers, all at instant 0, on a newly opened session
 unfoldable pub received : ℕ → List ℕ → Run
-received D numbers = calls (config D) (map (λ (n : ℕ). media 0 (datagram n)) numbers)
+received D numbers = calls (config D 5000000) (map (λ (n : ℕ). media 0 (datagram n)) numbers)
 
 unfoldable pub answer : Question → Found
 unfolding received
@@ -95,6 +102,7 @@ answer (reference highest n) = number (extended 16 (Opt.Some highest) n)
 answer (counts D numbers) = counted (length (parse (received D numbers .stored) .gaps)) (length (received D numbers .book .forgotten))
 answer (lists D numbers) = listed (arrived (received D numbers .book)) (sort (accounted (received D numbers .book)))
 answer (samples l) = estimate (foldl sampledRtt OptRtt.None l)
+answer (nackDue initialDelay detected now) = isDue (due (config 1 initialDelay .settings) OptRtt.None now (fresh detected 0))
 answer (repairPayload p) = cond (eqb (originalRefusal p) 0) (original (originalNumber p) (originalPayload p)) (refused (originalRefusal p))
 
 unfoldable pub RowsHold : Type 0

@@ -1,5 +1,4 @@
 -- 01, "Repair state", and 002: the round trip estimate, after RFC 6298 section 2. All numbers are nanoseconds.
-use mathlib.Core.Path.{_≡_}
 use mathlib.Core.Bool.{Bool, true, _&&_}
 use Prim.Native.Nat.{ℕ, _+_, _*_, _/_}
 use lib.Dec.{leb}
@@ -47,7 +46,3 @@ unfoldable pub optRttInRange : OptRtt → Bool
 unfolding rttInRange
 optRttInRange None = true
 optRttInRange (Some e) = rttInRange e
-
--- 01, "Examples": "samples 80, 100: srtt 82, variation 35"
-abbrev pub RowHolds : Type 0
-RowHolds = sampledRtt (sampledRtt None 80) 100 ≡ Some (record { srtt = 82; variation = 35 })

@@ -3,7 +3,7 @@ ghost use mathlib.Core.Path.{_≡_};
 ghost use Prim.Native.Nat.{_≤_, _<_, _^_};
 ghost use lib.Dec.{T};
 ghost use Rattle.durations.specs.Seconds.{largest};
-ghost use Rattle.rtx_state.specs.RoundTrip.{fromFirstSample, rttUpdated, nackResendDelay, rttInRange, sampledRtt, optRttInRange, srttOf, RowHolds};
+ghost use Rattle.rtx_state.specs.RoundTrip.{fromFirstSample, rttUpdated, nackResendDelay, rttInRange, sampledRtt, optRttInRange, srttOf};
 ghost use Rattle.rtx_state.specs.Repair.{newRtxState, updateRtt, recordInTime, recordRedundant, recordTooLate, rtxStats, rtxInRange};
 use durations::LARGEST;
 use rtp::opt::Opt;
@@ -184,8 +184,3 @@ fn srtt_of(rtt: OptRtt) -> Opt
         OptRtt::Some(rtt) => Opt::Some(rtt.srtt),
     }
 }
-
-// 01's example of an estimate.
-fn rows()
-    ensures { λ r. ⌜ RowHolds ⌝ }
-{}
