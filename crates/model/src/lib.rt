@@ -1,7 +1,6 @@
 // The records of the queue (000) as they go in and come back by value, beside the storage that the caller lends. No code: specs/
 // holds what the queue is, for the contracts and for the theorem over every list of calls alike.
 ghost use Rattle.model.specs.Working.{NeverLocksUp};
-
 use config::Senders;
 use config::Settings;
 use jitter::Jitter;
