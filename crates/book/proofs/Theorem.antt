@@ -2,11 +2,12 @@
 -- call to call. A refused call changes nothing. An accepted one leaves what `taken` says, read back from storage; check 16 finds nothing there.
 use mathlib.Core.Path.{_≡_, refl, sym, ap, _∙_, subst}
 use mathlib.Core.Logic.{_↔_}
+use mathlib.Core.Bool.{Bool, true, false, cond}
 use mathlib.Core.List.{List, [], _∷_, _++_, map, foldl, append-nil}
 use Prim.Native.Nat.{ℕ, suc, _+_, _-_, _%_, _^_}
 use native.Mathlib.Omega.{arith}
 use lib.Dec.{T, eqb, eqb→eq}
-use borrow.Author.Tests.{eq-eqb}
+use borrow.Author.Tests.{eq-eqb, eqb-true}
 use lib.ListN.{length}
 use Rattle.config.specs.declared.RtpInboundQueueMode.{RtpInboundQueueMode}
 use Rattle.config.specs.declared.RtpInboundQueueMode.the-variants.{Passthrough, SortedQueue}
@@ -15,13 +16,16 @@ use Rattle.model.specs.Records.{Gap, State, newState, newQueue, gapNumbers, hig
 use Rattle.model.specs.Storage.{Storage, Stored, parse, write}
 use Rattle.model.specs.Calls.{Call, taken, answered}
 use Rattle.model.specs.Table.{sessionRefusal, refusal, openingRefusal}
-use Rattle.model.specs.Did.{Done, did, turnedBack, accepted, opened}
+use Rattle.model.specs.declared.Session.{Session}
+use Rattle.model.specs.Did as D
+use Rattle.model.specs.Did.{Done, did, turnedBack, accepted, session, opened}
 use Rattle.model.proofs.Laid.{parse-write}
 use Rattle.model.proofs.Lists.{none, by-cases}
 use Rattle.book.specs.Sorted.{putAllIn, sort, Ascending}
 use Rattle.book.specs.Book as B
 use Rattle.book.specs.Book.{Span, none, fromTo, Book, empty, enter, allOf, arrived, accounted}
 use Rattle.book.specs.Claim.{hear, given, Run, start, call, calls, InOrder, Holds, Step, EveryListOfCalls}
+use Rattle.book.specs.Code.{Made, opening, further, EveryRun}
 use Rattle.book.proofs.Count.{count, count-append, count-putAllIn, count-sort, Sorted, sorted-putAllIn, sorted-sort, sorted-same, sorted-following, none-counted}
 use Rattle.book.proofs.Tally.{total, Tally, tally-empty, tally-enter}
 use Rattle.model.proofs.Sound.{Sound, ListsOf}
@@ -187,4 +191,37 @@ every-list-of-calls =
       opening = λ c t e. rw (eq-eqb (openingRefusal c t) 0 e);
       every = λ c t ks e. let r : Left c (calls c ks) = left c t ks e in holds (sound-session (calls c ks .stored) (r .sound)) (r .inv);
       further = λ c t ks k e. step c (calls c ks) k (left c t ks e);
+    }
+
+-- ---- runs of code
+
+-- where the opening answers with a session it was not refused, and what it leaves is the start
+opened-is : (c : Config) (t u : Storage) (s : Session) → opened c t ≡ record { answer = session s; storage = u }
+    → (openingRefusal c t ≡ 0) × (start c ≡ record { stored = record { session = s; storage = u }; book = empty; returned = [] })
+unfolding opened start write empty
+opened-is c t u s e = go (eqb (openingRefusal c t) 0) refl e
+  where
+    go : (b : Bool) → eqb (openingRefusal c t) 0 ≡ b
+        → _≡_ {A = D.Opened} (cond b (record { answer = session (write (newState c) .session); storage = write (newState c) .storage }) (record { answer = D.refused (openingRefusal c t); storage = t })) (record { answer = session s; storage = u })
+        → (openingRefusal c t ≡ 0) × (start c ≡ record { stored = record { session = s; storage = u }; book = empty; returned = [] })
+    go true z o =
+        let a : session (write (newState c) .session) ≡ session s = ap (λ (p : D.Opened). p .answer) o in
+        let st : write (newState c) .storage ≡ u = ap (λ (p : D.Opened). p .storage) o in
+        let ss : write (newState c) .session ≡ s = cc in
+        (eqb-true (openingRefusal c t) 0 z, cc)
+    go false z o =
+        let a : D.refused (openingRefusal c t) ≡ session s = ap (λ (p : D.Opened). p .answer) o in
+        let y : _≡_ {A = ℕ} 0 1 = cc in
+        absurd (omega arith)
+
+made-left : {c : Config} {ks : List Call} {x : Run} → Made c ks x → Left c x
+unfolding call
+made-left {c} (opening t {u = u} {s = s} o) = let e = opened-is c t u s o in subst (Left c) (e .1) (left-start c t (e .0))
+made-left {c} (further {x = x} k m e) = subst (λ (d : Done). Left c (after c x k (made-left m) d)) e (left-call c x k (made-left m))
+
+pub every-run : EveryRun
+every-run =
+    record {
+      holds = λ c ks x m. let r : Left c x = made-left m in holds (sound-session (x .stored) (r .sound)) (r .inv);
+      steps = λ c ks x k m. step c x k (made-left m);
     }

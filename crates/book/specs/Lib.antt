@@ -2,4 +2,5 @@
 pub mod Sorted
 pub mod Book
 pub mod Claim
+pub mod Code
 pub mod Rows
