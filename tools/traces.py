@@ -1,0 +1,65 @@
+"""What the tools share of docs/TRACE.md: datagrams, and the answers of each call."""
+
+FIELDS = "mode clock_rate depth max_gaps delay initial resend max pt ssrc rtx rtx_pt rtx_ssrc".split()
+MAX_INSTANT = 2**52 - 1
+
+# Every answer of every call that a trace can meet, without its values
+_DATAGRAM = "refused 2,refused 3,refused 4,refused 5,refused 6,refused 7,refused 8,refused 14"
+ANSWERS = {call: words.split(",") for call, words in {
+    "open": "opened,refused 1",
+    "media": f"no session,queued,dropped,{_DATAGRAM},refused 12",
+    "repair": f"no session,recovered,redundant,too late,refused 9,{_DATAGRAM},refused 10,refused 11,refused 13",
+    "poll": "no session,nothing,packet,refused 8",
+    "poll_nack": "no session,nothing,nack,refused 8",
+    "timeout_receive": "no session,none,after,refused 8",
+    "timeout_nack": "no session,none,after,refused 8",
+    "rtx_stats": "no session,none,rtx",
+    "highest": "no session,none,highest",
+    "state": "no session,state",
+    "(no call)": "unreadable",
+}.items()}
+
+
+def datagram(pt, number, timestamp, ssrc, payload=b"", marker=0, csrcs=0, extension=None, padding=0):
+    """An RTP packet (RFC 3550, section 5.1). `extension` counts its 32-bit words; `padding` is its count of bytes."""
+    first = 0x80 | (0x20 if padding else 0) | (0x10 if extension is not None else 0) | csrcs
+    head = bytes([first, marker << 7 | pt]) + number.to_bytes(2, "big") + timestamp.to_bytes(4, "big") + ssrc.to_bytes(4, "big")
+    head += bytes(range(4 * csrcs))
+    if extension is not None:
+        head += b"\xbe\xde" + extension.to_bytes(2, "big") + bytes(4 * extension)
+    return head + payload + (bytes(padding - 1) + bytes([padding]) if padding else b"")
+
+
+def repair_payload(number, payload=b""):
+    """RFC 4588, section 4: the original number, then the original payload."""
+    return number.to_bytes(2, "big") + payload
+
+
+def hexed(data):
+    return data.hex() or "-"
+
+
+def is_call(line):
+    """Whether a line, without its line feed, is answered at all."""
+    return line != "" and not line.startswith("#")
+
+
+def answers(lines):
+    """Groups answer lines by call: `state` has as many lines more as its last three fields say."""
+    at = 0
+    while at < len(lines):
+        more = sum(map(int, lines[at].split(" ")[-3:])) if lines[at].startswith("state ") else 0
+        yield lines[at:at + 1 + more]
+        at += 1 + more
+
+
+def kind(answer):
+    """The answer without its values."""
+    words = answer[0].split(" ")
+    return answer[0] if words[0] in ("refused", "too", "no") else words[0]
+
+
+def split(text):
+    """Lines of a trace or of answers; a last line without its line feed is a line all the same."""
+    lines = text.split("\n")
+    return lines[:-1] if lines[-1] == "" else lines
