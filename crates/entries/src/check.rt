@@ -1,0 +1,101 @@
+// 01's check 16 on the entries, and tidying: what every call does before anything else.
+ghost use mathlib.Core.Path.{_≡_};
+ghost use mathlib.Core.Bool.{true, _&&_};
+ghost use mathlib.Core.List.{List};
+ghost use Prim.Native.Nat.{ℕ, _*_, _≤_};
+ghost use lib.ListN.{length};
+ghost use Rattle.words.specs.Blocks.{laid};
+ghost use Rattle.words.specs.Order.{ascends};
+ghost use Rattle.model.specs.Lists.{every?};
+ghost use Rattle.model.specs.Records.{gapNumbers, entryNumbers};
+ghost use Rattle.model.specs.Valid.{atMost, byClock};
+ghost use Rattle.model.specs.Storage.{ENTRY-WORDS, PAYLOAD-BYTES, GAP-WORDS, entryWords, payloadBytes, entriesOf, gapsOf};
+ghost use Rattle.entries.specs.Entries.{fits};
+ghost use Rattle.entries.specs.Sound.{rowWithin, entryWithin};
+use super::Entry;
+use packet_gaps::check::Bounds;
+use rtp::opt::Opt;
+
+fn at_most(highest: Opt, x: u64) -> bool
+    ensures { λ r. ⌜ r ≡ atMost highest x ⌝ }
+{
+    match highest {
+        Opt::None => false,
+        Opt::Some(h) => x <= h,
+    }
+}
+
+fn by_clock(clock: u64, instant: Opt) -> bool
+    ensures { λ r. ⌜ r ≡ byClock clock instant ⌝ }
+{
+    match instant {
+        Opt::None => true,
+        Opt::Some(i) => i <= clock,
+    }
+}
+
+// `missing`: the entry's number is that of a gap too.
+fn entry_within(b: Bounds, missing: bool, e: Entry) -> bool
+    ensures { λ r. ⌜ r ≡ rowWithin b missing e ⌝ }
+{
+    let highest = b.highest;
+    let passed = b.passed;
+    let arrival = e.arrival;
+    let low = packet_gaps::check::above(passed, e.number);
+    let high = at_most(highest, e.number);
+    let came = by_clock(b.clock, arrival);
+    high & (low & (!missing & ((e.timestamp <= durations::LARGEST) & (came & (e.size <= 320)))))
+}
+
+// Whether the numbers of the n entries ascend, and each entry is within the bounds and not the number of one of the m gaps. The payloads'
+// bytes are not looked at.
+pub fn are_sound(words: &[u64], n: usize, b: Bounds, gaps: &[u64], m: usize) -> bool
+    requires { ⌜ (ENTRY-WORDS * n ≤ length (now words)) × (GAP-WORDS * m ≤ length (now gaps)) ⌝ }
+    requires { ⌜ ascends (gapNumbers (gapsOf (now gaps) m)) ≡ true ⌝ }
+    ensures { λ r. ⌜ ((bytes : List ℕ) → r ≡ (ascends (entryNumbers (entriesOf (now (words .entry)) bytes n)) && every? (entryWithin b (gapsOf (now (gaps .entry)) m)) (entriesOf (now (words .entry)) bytes n))) ⌝ }
+{
+    let mut i = 0;
+    while i < n {
+        let e = super::read(words, i);
+        let missing = packet_gaps::contains(gaps, m, e.number);
+        if !entry_within(b, missing, e) {
+            return false;
+        }
+        let next = i + 1;
+        if next < n {
+            if words[4 * next] <= e.number {
+                return false;
+            }
+            i = next;
+        } else {
+            i = next;
+        }
+    }
+    true
+}
+
+// Zeros in each payload's place after the payload, and in all places after the n-th.
+fn tidy_places(words: &[u64], bytes: &mut [u8], n: usize)
+    requires { ⌜ (ENTRY-WORDS * n ≤ length (now words)) × (PAYLOAD-BYTES * n ≤ length (now bytes)) ⌝ }
+    requires { ⌜ every? fits (entriesOf (now words) (now bytes) n) ≡ true ⌝ }
+    ensures { λ _. ⌜ now (bytes .exit) ≡ laid payloadBytes (length (now (bytes .entry))) (entriesOf (now (words .entry)) (now (bytes .entry)) n) ⌝ }
+{
+    let mut i = 0;
+    while i < n {
+        let e = super::read(words, i);
+        words::octets::tidy_place(bytes, 320 * i, 320, e.size);
+        i += 1;
+    }
+    words::octets::tidy(bytes, 320 * n);
+}
+
+// Zeros wherever nothing of the n entries stands.
+pub fn tidy(words: &mut [u64], bytes: &mut [u8], n: usize)
+    requires { ⌜ (ENTRY-WORDS * n ≤ length (now words)) × (PAYLOAD-BYTES * n ≤ length (now bytes)) ⌝ }
+    requires { ⌜ every? fits (entriesOf (now words) (now bytes) n) ≡ true ⌝ }
+    ensures { λ _. ⌜ now (words .exit) ≡ laid entryWords (length (now (words .entry))) (entriesOf (now (words .entry)) (now (bytes .entry)) n) ⌝ }
+    ensures { λ _. ⌜ now (bytes .exit) ≡ laid payloadBytes (length (now (bytes .entry))) (entriesOf (now (words .entry)) (now (bytes .entry)) n) ⌝ }
+{
+    tidy_places(words, bytes, n);
+    words::tidy(words, 4 * n);
+}

@@ -1,0 +1,59 @@
+-- `forget`: the words of the first of the number go, or nothing does.
+use mathlib.Core.Path.{_∙_}
+use Rattle.lost_nacked.proofs.Laws.{forget-instant, forget-words, forget-none, forget-same}
+use borrow.Author.Needs.{needs}
+use Rattle.lost_nacked.proofs.forget.Statement.{statement}
+use Rattle.lost_nacked.proofs.forget.Tie as tie
+
+position-requires : tie.Need-position-requires
+position-requires c κs = search needs
+
+mul-at : tie.Need-mul-at
+mul-at c = search needs
+
+add-at : tie.Need-add-at
+add-at c = search needs
+
+mul-at-2 : tie.Need-mul-at-2
+mul-at-2 c = search needs
+
+slice-read-at : tie.Need-slice-read-at
+slice-read-at c = search needs
+
+mul-remove : tie.Need-mul-remove
+mul-remove c = search needs
+
+mul-remove-2 : tie.Need-mul-remove-2
+mul-remove-2 c = search needs
+
+remove-requires : tie.Need-remove-requires
+remove-requires c κs = search needs
+
+same-length : tie.Need-same-length
+same-length c = search needs
+
+returns : tie.Need-returns
+returns c = let s = c .before .before .before .before .before .before .before .before .before in (forget-instant (s .args .s .now) (s .args .n) (s .args .x) (c .before .before .before .before .before .before .position .result) (s .pre) (c .before .before .before .before .before .before .position .ensures) (c .before .before .before .before .before .if1 .taken), c .before .before .remove .ensures ∙ forget-words (s .args .s .now) (s .args .n) (s .args .x) (c .before .before .before .before .before .before .position .result) (s .pre) (c .before .before .before .before .before .before .position .ensures) (c .before .before .before .before .before .if1 .taken))
+
+same-length-2 : tie.Need-same-length-2
+same-length-2 c = search needs
+
+returns-2 : tie.Need-returns-2
+returns-2 c = let s = c .before .before .before .before in (forget-none (s .args .s .now) (s .args .n) (s .args .x) (c .before .position .result) (s .pre) (c .before .position .ensures) (c .if1 .left), forget-same (s .args .s .now) (s .args .n) (s .args .x) (c .before .position .result) (s .pre) (c .before .position .ensures) (c .if1 .left))
+
+pub forget-spec : {M : Type 1} → statement M
+forget-spec =
+    tie.close
+    (tie.spec
+    position-requires
+    mul-at
+    add-at
+    mul-at-2
+    slice-read-at
+    mul-remove
+    mul-remove-2
+    remove-requires
+    same-length
+    returns
+    same-length-2
+    returns-2)

@@ -1,0 +1,152 @@
+-- What the contracts of this crate say, in the terms of the queue's definitions; and how one call's result meets the next one's demand.
+use mathlib.Core.Path.{_≡_, refl, sym, ap, _∙_}
+use mathlib.Core.Bool.{Bool, true, false, cond, _&&_}
+use mathlib.Core.List.{List, [], _∷_, _++_, map}
+use Prim.Native.Nat.{ℕ, zero, suc, _+_, _*_, _-_, _≤_}
+use native.Mathlib.Omega.{arith}
+use lib.Dec.{T, eqb, leb}
+use lib.ListN.{length, take, drop, length-map}
+use lib.Seq.{length-take-le}
+use borrow.Author.Tests.{leb-true, le-leb}
+use Rattle.words.specs.Blocks.{blocks, recordsOf, laid}
+use Rattle.words.proofs.Records.{records-laid}
+use Rattle.words.specs.Order.{ascends, rank}
+use Rattle.words.proofs.Ordered.{and-left, and-right, rank-le}
+use Rattle.rtp.specs.declared.opt.Opt.the-variants.{None, Some}
+use Rattle.durations.specs.Seconds.{largest}
+use Rattle.rtx_state.specs.declared.OptRtt.{OptRtt}
+use Rattle.rtx_state.specs.declared.OptRtt.the-variants as OptRtt
+use Rattle.rtx_state.specs.RoundTrip.{sampledRtt, optRttInRange}
+use Rattle.rtx_state.proofs.Range.{delay-lt}
+use Rattle.config.specs.declared.Settings.{Settings}
+use Rattle.config.specs.declared.RtpInboundQueueMode.{RtpInboundQueueMode}
+use Rattle.config.specs.declared.RtpInboundQueueMode.the-variants.{Passthrough, SortedQueue}
+use Rattle.config.specs.Timings.{resendDelayOf, nackTimings}
+use Rattle.config.specs.Valid.{longest}
+use Rattle.model.specs.declared.LastReturned.{LastReturned}
+use Rattle.model.specs.declared.Queue.{Queue}
+use Rattle.model.specs.Lists.{keep, leading, trailing, every?}
+use Rattle.model.specs.Records.{Gap, gapNumbers, returnedOf, highestOf}
+use Rattle.model.specs.Rules.{gapsBelow, gapsFrom, fresh, dueAt, due, nackDue, rttAfterRepair}
+use Rattle.model.specs.Push.{passed, atOrBelow}
+use Rattle.model.specs.Poll.{nackTimeout}
+use Rattle.model.specs.Valid.{under, notPassed, gapSound}
+use Rattle.model.specs.Storage.{GAP-WORDS, gapWords, gapOfWords, gapsOf}
+use Rattle.model.proofs.Laid.{even-words, gap-wide, gap-coded}
+use Rattle.model.proofs.Kept.{kept-length}
+use Rattle.packet_gaps.specs.Gaps.{GapsIn, Small, onceOf, nackedOnce, sampledAt, dueAfter, dueBy, nackedBy, timeoutBy, instantsFit}
+use Rattle.packet_gaps.specs.Sound.{passedOf, boundsOf, gapWithin}
+use Rattle.packet_gaps.proofs.Laws.{below-front}
+use Rattle.packet_gaps.proofs.Turns.{every-weaker}
+
+-- ---- check 16
+
+pub passed-is : (mode : RtpInboundQueueMode) (r : LastReturned) (n : ℕ) → passed mode (returnedOf r) n ≡ atOrBelow n (passedOf mode r)
+unfolding passed passedOf atOrBelow
+passed-is Passthrough r n = refl
+passed-is SortedQueue r n = refl
+
+pub sound-is : (q : Queue) (g : Gap) → gapSound q g ≡ gapWithin (boundsOf q) g
+unfolding gapSound gapWithin boundsOf notPassed
+sound-is q g = rw (passed-is (q .config .settings .mode) (q .returned) (g .number))
+
+pub every-same : {A : Type 0} (p q : A → Bool) → ((x : A) → p x ≡ q x) → (xs : List A) → every? p xs ≡ every? q xs
+unfolding every?
+every-same p q e [] = refl
+every-same p q e (x ∷ xs) = rw (e x, every-same p q e xs)
+
+pub all-sound : (q : Queue) (gs : List Gap) → every? (gapSound q) gs ≡ every? (gapWithin (boundsOf q)) gs
+all-sound q gs = every-same (gapSound q) (gapWithin (boundsOf q)) (sound-is q) gs
+
+-- sound gaps have instants that fit
+pub sound-instants : (q : Queue) (gs : List Gap) → q .clock ≤ largest → every? (gapSound q) gs ≡ true → every? instantsFit gs ≡ true
+unfolding gapSound instantsFit
+sound-instants q gs c e = every-weaker (gapSound q) instantsFit one gs e
+  where
+    one : (g : Gap) → gapSound q g ≡ true → instantsFit g ≡ true
+    one g f =
+        let u : Bool = under (highestOf (q .last)) (g .number) in
+        let p : Bool = notPassed q (g .number) in
+        let d : Bool = leb (g .detected) (q .clock) in
+        let a : Bool = leb (g .nackedAt) (q .clock) in
+        let x : (d && a) ≡ true = and-right p (d && a) (and-right u (p && (d && a)) f) in
+        let hd = leb-true (g .detected) (q .clock) (and-left d a x) in
+        let ha = leb-true (g .nackedAt) (q .clock) (and-right d a x) in
+        rw (le-leb (g .detected) largest (omega arith), le-leb (g .nackedAt) largest (omega arith))
+
+-- ---- NACKs
+
+module _ (set : Settings) (rtt : OptRtt) (now : ℕ) where
+  pub due-is : (g : Gap) → due set rtt now g ≡ dueBy (nackTimings set rtt) now g
+  unfolding due dueAt dueAfter nackTimings
+  due-is g = refl
+
+  pub due-keep : (gs : List Gap) → keep (due set rtt now) gs ≡ keep (dueBy (nackTimings set rtt) now) gs
+  unfolding due dueAt dueAfter nackTimings
+  due-keep gs = refl
+
+  pub due-nacked : (gs : List Gap) → nackDue set rtt now gs ≡ map (nackedBy (nackTimings set rtt) now) gs
+  unfolding nackDue nackedBy due dueAt dueAfter nackTimings
+  due-nacked gs = refl
+
+  pub timeout-is : (gs : List Gap) → nackTimeout set rtt now gs ≡ timeoutBy (nackTimings set rtt) now gs
+  unfolding nackTimeout timeoutBy dueAt dueAfter nackTimings
+  timeout-is [] = refl
+  timeout-is (g ∷ gs) = rw (timeout-is gs)
+
+-- valid settings and an estimate in range give small timings
+pub small-timings : (set : Settings) (rtt : OptRtt) → set .«initial_nack_delay» ≤ longest → set .«default_nack_resend_delay» ≤ longest → T (optRttInRange rtt) → Small (nackTimings set rtt)
+unfolding nackTimings resendDelayOf optRttInRange
+small-timings set OptRtt.None i d r = record { initial = omega arith; resend = omega arith }
+small-timings set (OptRtt.Some e) i d r = record { initial = omega arith; resend = delay-lt e r }
+
+pub repair-sample : (now : ℕ) (gs : List Gap) (rtt : OptRtt) → rttAfterRepair now gs rtt ≡ sampledAt now (onceOf gs) rtt
+unfolding rttAfterRepair onceOf nackedOnce sampledAt
+repair-sample now [] rtt = refl
+repair-sample now (g ∷ gs) rtt = go (eqb (g .nacks) 1)
+  where
+    go : (b : Bool) → cond b (sampledRtt rtt (now - g .nackedAt)) rtt ≡ sampledAt now (cond b (Some (g .nackedAt)) None) rtt
+    go true = refl
+    go false = refl
+
+-- ---- parts of the list
+
+pub below-parts : (x : ℕ) (gs : List Gap) → ascends (gapNumbers gs) ≡ true
+    → (gapsBelow x gs ≡ take (length (gapsBelow x gs)) gs) × (gapsFrom x gs ≡ drop (length (gapsBelow x gs)) gs)
+below-parts x gs a =
+    let r = rank x (gapNumbers gs) in
+    let f = below-front x gs a in
+    let le : r ≤ length gs = omega (arith, rank-le x (gapNumbers gs), length-map gs (λ (g : Gap). g .number)) in
+    let l : length (gapsBelow x gs) ≡ r = ap length (f .0) ∙ length-take-le r gs le in
+    (f .0 ∙ ap (λ (k : ℕ). take k gs) (sym l), f .1 ∙ ap (λ (k : ℕ). drop k gs) (sym l))
+
+pub leading-front : {A : Type 0} (p : A → Bool) (xs : List A) → (leading p xs ≡ take (length (leading p xs)) xs) × (trailing p xs ≡ drop (length (leading p xs)) xs)
+unfolding leading trailing
+leading-front p [] = (refl, refl)
+leading-front {A} p (x ∷ xs) = go (p x) (leading-front p xs)
+  where
+    go : (b : Bool) → (leading p xs ≡ take (length (leading p xs)) xs) × (trailing p xs ≡ drop (length (leading p xs)) xs)
+        → (cond b (x ∷ leading p xs) [] ≡ take (length (cond b (x ∷ leading p xs) [])) (x ∷ xs)) × (cond b (trailing p xs) (x ∷ xs) ≡ drop (length (cond b (x ∷ leading p xs) [])) (x ∷ xs))
+    go true ih = (ap (λ (l : List A). x ∷ l) (ih .0), ih .1)
+    go false ih = (refl, refl)
+
+-- the gaps in the first places
+pub gapsOf-take : (s : List ℕ) (n k : ℕ) → k ≤ n → gapsOf s k ≡ take k (gapsOf s n)
+unfolding gapsOf blocks
+gapsOf-take s n zero h = refl
+gapsOf-take s zero (suc k) h = absurd (omega arith)
+gapsOf-take s (suc n) (suc k) h = ap (λ (l : List Gap). gapOfWords (take GAP-WORDS s) ∷ l) (gapsOf-take (drop GAP-WORDS s) n k (omega arith))
+
+-- ---- from one call to the next
+
+-- a slice in which a list was laid down holds it
+module _ (cap n : ℕ) (gs : List Gap) (s : List ℕ) (e : s ≡ laid gapWords cap gs) (l : length gs ≡ n) (h : GAP-WORDS * n ≤ cap) where
+  pub laid-is : gapsOf s n ≡ gs
+  unfolding gapsOf recordsOf
+  laid-is = ap (λ (x : List ℕ). gapsOf x n) e ∙ records-laid GAP-WORDS gapOfWords gapWords gap-coded cap n gs l
+
+  pub laid-length : length s ≡ cap
+  laid-length = kept-length GAP-WORDS cap n gapWords gs s e (even-words GAP-WORDS gapWords gap-wide gs) l h
+
+  pub laid-in : GapsIn s n
+  laid-in = record { room = omega (arith, laid-length); held = rw (laid-length, laid-is) e }

@@ -1,0 +1,98 @@
+-- The loop of `open_between`: each turn writes one gap behind the others, so that the gaps between h and the next number are open.
+use mathlib.Core.Path.{_≡_, refl, sym, ap, _∙_}
+use mathlib.Core.List.{List, [], _∷_, _++_, map, append-assoc, append-nil}
+use Prim.Native.Nat.{ℕ, zero, suc, _+_, _*_, _-_, _≤_, _<_}
+use native.Mathlib.Omega.{arith}
+use lib.ListN.{length, length-append, length-map}
+use Rattle.words.specs.Words.{written}
+use Rattle.words.specs.Blocks.{laid}
+use Rattle.words.proofs.Lists.{map-append}
+use Rattle.model.specs.Lists.{following}
+use Rattle.model.specs.Records.{Gap}
+use Rattle.model.specs.Rules.{between, fresh}
+use Rattle.model.specs.Storage.{GAP-WORDS, gapWords, gapsOf}
+use Rattle.model.proofs.Laid.{even-words, gap-wide, length-gapsOf}
+use Rattle.model.proofs.Kept.{kept-length, kept-pushed}
+use Rattle.packet_gaps.specs.Gaps.{GapsIn}
+
+following-next : (a k : ℕ) → following a (suc k) ≡ following a k ++ ((a + k) ∷ [])
+unfolding following
+following-next a zero = let e : a ≡ a + 0 = omega arith in ap (λ (v : ℕ). v ∷ []) e
+following-next a (suc k) =
+    let e : suc a + k ≡ a + suc k = omega arith in
+    ap (λ (l : List ℕ). a ∷ l) (following-next (suc a) k ∙ ap (λ (v : ℕ). following (suc a) k ++ (v ∷ [])) e)
+
+length-following : (a k : ℕ) → length (following a k) ≡ k
+unfolding following
+length-following a zero = refl
+length-following a (suc k) = ap suc (length-following (suc a) k)
+
+-- the gaps before the number that follows h by k + 1 are open
+unfoldable pub opened : List ℕ → ℕ → ℕ → ℕ → ℕ → List Gap
+opened s₀ n h at k = gapsOf s₀ n ++ map (fresh at) (following (suc h) k)
+
+length-opened : (s₀ : List ℕ) (n h at k : ℕ) → length (opened s₀ n h at k) ≡ n + k
+unfolding opened
+length-opened s₀ n h at k =
+    length-append (gapsOf s₀ n) (map (fresh at) (following (suc h) k))
+    ∙ rw (length-gapsOf s₀ n, length-map (following (suc h) k) (fresh at), length-following (suc h) k)
+
+opened-next : (s₀ : List ℕ) (n h at k : ℕ) → opened s₀ n h at k ++ (fresh at (suc h + k) ∷ []) ≡ opened s₀ n h at (suc k)
+unfolding opened
+opened-next s₀ n h at k = rw (append-assoc, following-next (suc h) k, map-append)
+
+pub record Opening (s₀ s : List ℕ) (n h x at number i : ℕ) : Type 0 where
+  pub from : n ≤ i
+  pub upto : number ≤ x
+  pub step : n + number ≡ i + (h + 1)
+  pub room : GAP-WORDS * (n + (x - (h + 1))) ≤ length s₀
+  pub same : length s ≡ length s₀
+  pub held : s ≡ laid gapWords (length s₀) (opened s₀ n h at (i - n))
+
+pub opening-none : (s₀ : List ℕ) (n h x at : ℕ) → GapsIn s₀ n → h < x → GAP-WORDS * (n + (x - (h + 1))) ≤ length s₀ → Opening s₀ s₀ n h x at (h + 1) n
+unfolding opened following
+opening-none s₀ n h x at k l r =
+    let z : n - n ≡ 0 = omega arith in
+    record {
+      from = omega arith;
+      upto = omega arith;
+      step = omega arith;
+      room = r;
+      same = refl;
+      held = rw (z, append-nil) (k .held);
+    }
+
+pub opening-more : (s₀ s t : List ℕ) (n h x at number i : ℕ) → Opening s₀ s n h x at number i → number < x
+    → t ≡ written (GAP-WORDS * i) (gapWords (fresh at number)) s → Opening s₀ t n h x at (number + 1) (i + 1)
+opening-more s₀ s t n h x at number i o l e =
+    let k = i - n in
+    let from : n ≤ i = o .from in
+    let step : n + number ≡ i + (h + 1) = o .step in
+    let room : GAP-WORDS * (n + (x - (h + 1))) ≤ length s₀ = o .room in
+    let v : suc h + k ≡ number = omega arith in
+    let z : suc k ≡ i + 1 - n = omega arith in
+    let xs = opened s₀ n h at k in
+    let lx : length xs ≡ i = length-opened s₀ n h at k ∙ omega arith in
+    let ly : length (opened s₀ n h at (i + 1 - n)) ≡ i + 1 = length-opened s₀ n h at (i + 1 - n) ∙ omega arith in
+    let held : t ≡ laid gapWords (length s₀) (opened s₀ n h at (i + 1 - n)) =
+    e
+    ∙ kept-pushed GAP-WORDS (length s₀) i gapWords xs s (o .held) (even-words GAP-WORDS gapWords gap-wide xs) lx (omega arith) (fresh at number)
+    ∙ ap (λ (m : ℕ). laid gapWords (length s₀) (xs ++ (fresh at m ∷ []))) (sym v)
+    ∙ ap (laid gapWords (length s₀)) (opened-next s₀ n h at k ∙ ap (opened s₀ n h at) z) in
+    record {
+      from = omega arith;
+      upto = omega arith;
+      step = omega arith;
+      room = room;
+      same = kept-length GAP-WORDS (length s₀) (i + 1) gapWords (opened s₀ n h at (i + 1 - n)) t held (even-words GAP-WORDS gapWords gap-wide (opened s₀ n h at (i + 1 - n))) ly (omega arith);
+      held = held;
+    }
+
+pub opening-all : (s₀ s : List ℕ) (n h x at number i : ℕ) → Opening s₀ s n h x at number i → x ≤ number
+    → s ≡ laid gapWords (length s₀) (gapsOf s₀ n ++ map (fresh at) (between h x))
+unfolding opened between
+opening-all s₀ s n h x at number i o l =
+    let step : n + number ≡ i + (h + 1) = o .step in
+    let upto : number ≤ x = o .upto in
+    let z : i - n ≡ x - suc h = omega arith in
+    o .held ∙ ap (λ (k : ℕ). laid gapWords (length s₀) (gapsOf s₀ n ++ map (fresh at) (following (suc h) k))) z

@@ -1,0 +1,124 @@
+-- `poll_nacks`: the loop keeps `Polling`.
+use mathlib.Core.Path.{refl, ap, _∙_}
+use Prim.Native.Nat.{_-_}
+use native.Mathlib.Omega.{arith}
+use Rattle.model.specs.Storage.{gapsOf}
+use Rattle.model.proofs.Laid.{length-gapsOf}
+use Rattle.packet_gaps.specs.Gaps.{gap, dueBy, full, instantsFit}
+use Rattle.packet_gaps.proofs.Laws.{noGap, due-as}
+use Rattle.packet_gaps.proofs.Turns.{every-at}
+use Rattle.packet_gaps.proofs.Writing.{none-at, Polling, polling-none, polling-here, polling-due, polling-skip, polling-count, polling-gaps, polling-out}
+use borrow.Author.Needs.{needs}
+use Rattle.packet_gaps.proofs.nacks.poll_nacks.Statement.{statement}
+use Rattle.packet_gaps.proofs.nacks.poll_nacks.Tie as tie
+
+abbrev Inv-loop : tie.InvT-loop
+Inv-loop s₀ n now t out₀ i₀ count₀ s out i count = Polling t now s₀ out₀ s out n i count
+
+abbrev μ-loop : tie.MeasureT-loop
+μ-loop s₀ n now t out₀ i₀ count₀ s out i count = n - i
+
+loop-holds : tie.Need-loop-holds Inv-loop μ-loop
+loop-holds c = let s = c .before .before in polling-none (s .args .t) (s .args .now) (s .args .s .now) (s .args .out .now) (s .args .n) (s .pre .0) (s .pre .1 .0)
+
+read-requires : tie.Need-read-requires Inv-loop μ-loop
+read-requires c κs = search needs
+
+is-due-requires : tie.Need-is-due-requires Inv-loop μ-loop
+is-due-requires c κs = let s = c .before .before .before .before .before .before in
+    let l = c .before .before .before .loop in
+    let r = c .read in
+    let g = gap (r .result) in
+    let h = c .before .before .loop-test .taken in
+    let e = polling-here (s .args .t) (s .args .now) (s .args .s .now) (s .args .out .now) (l .s) (l .out) (s .args .n) (l .i) (l .count) (l .inv) h g (r .ensures) in
+    (ap instantsFit e ∙ every-at instantsFit (gapsOf (s .args .s .now) (s .args .n)) noGap (l .i) (s .pre .1 .1 .0) (omega (arith, length-gapsOf (s .args .s .now) (s .args .n))), s .pre .1 .1 .1 .1)
+
+truncated-requires : tie.Need-truncated-requires Inv-loop μ-loop
+truncated-requires c κs = search needs
+
+mul-out : tie.Need-mul-out Inv-loop μ-loop
+mul-out c = search needs
+
+slice-write-out : tie.Need-slice-write-out Inv-loop μ-loop
+slice-write-out c = search needs
+
+add-count : tie.Need-add-count Inv-loop μ-loop
+add-count c = search needs
+
+nack-requires : tie.Need-nack-requires Inv-loop μ-loop
+nack-requires c κs = let s = c .before .before .before .before .before .before .before .before .before .before in
+    let l = c .before .before .before .before .before .before .before .loop in
+    let r = c .before .before .before .before .read in
+    let g = gap (r .result) in
+    let h = c .before .before .before .before .before .before .loop-test .taken in
+    let e = polling-here (s .args .t) (s .args .now) (s .args .s .now) (s .args .out .now) (l .s) (l .out) (s .args .n) (l .i) (l .count) (l .inv) h g (r .ensures) in
+    ap full e ∙ none-at (dueBy (s .args .t) (s .args .now)) full (gapsOf (s .args .s .now) (s .args .n)) noGap (l .i) (s .pre .1 .1 .1 .0) (omega (arith, length-gapsOf (s .args .s .now) (s .args .n))) (due-as (s .args .t) (s .args .now) _ _ _ _ (c .before .before .before .is-due .ensures) e (c .before .before .if1 .taken))
+
+write-requires : tie.Need-write-requires Inv-loop μ-loop
+write-requires c κs = search needs
+
+add-i : tie.Need-add-i Inv-loop μ-loop
+add-i c = search needs
+
+loop-less : tie.Need-loop-less Inv-loop μ-loop
+loop-less c = search needs
+
+loop-again : tie.Need-loop-again Inv-loop μ-loop
+loop-again c = let s = c .before .before .before .before .before .before .before .before .before .before .before .before .before .before in
+    let l = c .before .before .before .before .before .before .before .before .before .before .before .loop in
+    let r = c .before .before .before .before .before .before .before .before .read in
+    let g = gap (r .result) in
+    let h = c .before .before .before .before .before .before .before .before .before .before .loop-test .taken in
+    let e = polling-here (s .args .t) (s .args .now) (s .args .s .now) (s .args .out .now) (l .s) (l .out) (s .args .n) (l .i) (l .count) (l .inv) h g (r .ensures) in
+    polling-due (s .args .t) (s .args .now) (s .args .s .now) (s .args .out .now) (l .s) (l .out) (s .args .n) (l .i) (l .count) (l .inv) h g _ _ _ _ e (due-as (s .args .t) (s .args .now) _ _ _ _ (c .before .before .before .before .before .before .before .is-due .ensures) e (c .before .before .before .before .before .before .if1 .taken)) (c .before .before .before .nack .ensures) (c .before .before .write .ensures) (c .before .before .before .before .before .truncated .ensures) refl
+
+add-i-2 : tie.Need-add-i-2 Inv-loop μ-loop
+add-i-2 c = search needs
+
+loop-less-2 : tie.Need-loop-less-2 Inv-loop μ-loop
+loop-less-2 c = search needs
+
+loop-again-2 : tie.Need-loop-again-2 Inv-loop μ-loop
+loop-again-2 c = let s = c .before .before .before .before .before .before .before .before in
+    let l = c .before .before .before .before .before .loop in
+    let r = c .before .before .read in
+    let g = gap (r .result) in
+    let h = c .before .before .before .before .loop-test .taken in
+    let e = polling-here (s .args .t) (s .args .now) (s .args .s .now) (s .args .out .now) (l .s) (l .out) (s .args .n) (l .i) (l .count) (l .inv) h g (r .ensures) in
+    polling-skip (s .args .t) (s .args .now) (s .args .s .now) (s .args .out .now) (l .s) (l .out) (s .args .n) (l .i) (l .count) (l .inv) h (due-as (s .args .t) (s .args .now) _ _ _ _ (c .before .is-due .ensures) e (c .if1 .left))
+
+same-length : tie.Need-same-length Inv-loop μ-loop
+same-length c = search needs
+
+same-length-2 : tie.Need-same-length-2 Inv-loop μ-loop
+same-length-2 c = search needs
+
+returns : tie.Need-returns Inv-loop μ-loop
+returns c = let s = c .before .before .before .before in
+    let l = c .before .loop in
+    (polling-count (s .args .t) (s .args .now) (s .args .s .now) (s .args .out .now) (l .s) (l .out) (s .args .n) (l .i) (l .count) (l .inv) (c .loop-test .left), (polling-gaps (s .args .t) (s .args .now) (s .args .s .now) (s .args .out .now) (l .s) (l .out) (s .args .n) (l .i) (l .count) (l .inv) (c .loop-test .left), polling-out (s .args .t) (s .args .now) (s .args .s .now) (s .args .out .now) (l .s) (l .out) (s .args .n) (l .i) (l .count) (l .inv) (c .loop-test .left)))
+
+pub poll-nacks-spec : {M : Type 1} → statement M
+poll-nacks-spec =
+    tie.close
+    (tie.spec
+    Inv-loop
+    μ-loop
+    loop-holds
+    read-requires
+    is-due-requires
+    truncated-requires
+    mul-out
+    slice-write-out
+    add-count
+    nack-requires
+    write-requires
+    add-i
+    loop-less
+    loop-again
+    add-i-2
+    loop-less-2
+    loop-again-2
+    same-length
+    same-length-2
+    returns)

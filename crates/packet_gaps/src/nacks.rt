@@ -1,0 +1,138 @@
+// 001's NACKs: which gaps are due, when the next one is, and which were tried in vain. What is due is said by the timings, which the
+// settings and the round trip give (`Rattle.packet_gaps.proofs.Timings`).
+ghost use mathlib.Core.Path.{_≡_};
+ghost use mathlib.Core.Bool.{true, false};
+ghost use mathlib.Core.List.{map};
+ghost use Prim.Native.Nat.{_+_, _-_, _*_, _≤_, _<_};
+ghost use lib.ListN.{length, drop};
+ghost use Rattle.words.specs.Words.{over};
+ghost use Rattle.words.specs.Blocks.{laid};
+ghost use Rattle.model.specs.Lists.{keep, leading, some?, every?};
+ghost use Rattle.model.specs.Rules.{nacked, tried};
+ghost use Rattle.model.specs.Storage.{GAP-WORDS, gapWords, gapsOf};
+ghost use Rattle.packet_gaps.specs.Gaps.{GapsIn, gap, dueAfter, dueBy, nackedBy, truncated, full, timeoutBy, instantsFit, Small};
+use super::Gap;
+use config::NackTimings;
+use rtp::ExtendedSequenceNumber;
+use rtp::opt::Opt;
+
+fn due_at(g: Gap, t: NackTimings) -> u64
+    requires { ⌜ instantsFit (gap g) ≡ true ⌝ }
+    requires { ⌜ Small t ⌝ }
+    ensures { λ r. ⌜ r ≡ dueAfter t (gap g) ⌝ }
+{
+    if g.nacks == 0 {
+        return g.detected + t.initial;
+    }
+    g.nacked_at + t.resend
+}
+
+fn is_due(g: Gap, t: NackTimings, now: u64) -> bool
+    requires { ⌜ instantsFit (gap g) ≡ true ⌝ }
+    requires { ⌜ Small t ⌝ }
+    ensures { λ r. ⌜ r ≡ dueBy t now (gap g) ⌝ }
+{
+    due_at(g, t) <= now
+}
+
+// g with one more NACK, sent at `now`.
+fn nack(g: Gap, now: u64) -> Gap
+    requires { ⌜ full (gap g) ≡ false ⌝ }
+    ensures { λ r. ⌜ gap r ≡ nacked now (gap g) ⌝ }
+{
+    Gap {
+        number: g.number,
+        detected: g.detected,
+        nacks: g.nacks + 1,
+        nacked_at: now,
+    }
+}
+
+// Whether a gap that is due was NACKed 2^32 - 1 times (01, refusal 14); the gaps before place `first` are left out.
+pub fn any_full(s: &[u64], first: usize, n: usize, now: u64, t: NackTimings) -> bool
+    requires { ⌜ GAP-WORDS * n ≤ length (s .now) ⌝ }
+    requires { ⌜ every? instantsFit (gapsOf (s .now) n) ≡ true ⌝ }
+    requires { ⌜ Small t ⌝ }
+    ensures { λ r. ⌜ r ≡ some? full (keep (dueBy t now) (drop first (gapsOf (s .entry .now) n))) ⌝ }
+{
+    let mut i = first;
+    while i < n {
+        let g = super::read(s, i);
+        if is_due(g, t, now) {
+            if 4294967295 <= g.nacks {
+                return true;
+            }
+            i += 1;
+        } else {
+            i += 1;
+        }
+    }
+    false
+}
+
+// NACKs each gap that is due, writes their numbers to the front of `out`, and says how many they are.
+pub fn poll_nacks(s: &mut [u64], n: usize, now: u64, t: NackTimings, out: &mut [u16]) -> usize
+    requires { ⌜ GapsIn (s .now) n ⌝ }
+    requires { ⌜ n ≤ length (out .now) ⌝ }
+    requires { ⌜ every? instantsFit (gapsOf (s .now) n) ≡ true ⌝ }
+    requires { ⌜ some? full (keep (dueBy t now) (gapsOf (s .now) n)) ≡ false ⌝ }
+    requires { ⌜ Small t ⌝ }
+    ensures { λ r. ⌜ r ≡ length (keep (dueBy t now) (gapsOf (s .entry .now) n)) ⌝ }
+    ensures { λ r. ⌜ s .exit .now ≡ laid gapWords (length (s .entry .now)) (map (nackedBy t now) (gapsOf (s .entry .now) n)) ⌝ }
+    ensures { λ r. ⌜ out .exit .now ≡ over (map truncated (keep (dueBy t now) (gapsOf (s .entry .now) n))) (out .entry .now) ⌝ }
+{
+    let mut i = 0;
+    let mut count = 0;
+    while i < n {
+        let g = super::read(s, i);
+        if is_due(g, t, now) {
+            out[count] = ExtendedSequenceNumber(g.number).truncated().0;
+            count += 1;
+            super::write(s, i, nack(g, now));
+            i += 1;
+        } else {
+            i += 1;
+        }
+    }
+    count
+}
+
+// How long it is from `now` until `at`.
+fn until(at: u64, now: u64) -> u64
+    ensures { λ r. ⌜ r ≡ at - now ⌝ }
+{
+    if now < at { at - now } else { 0 }
+}
+
+// The least time until a gap is due.
+pub fn timeout_nacks(s: &[u64], n: usize, now: u64, t: NackTimings) -> Opt
+    requires { ⌜ GAP-WORDS * n ≤ length (s .now) ⌝ }
+    requires { ⌜ every? instantsFit (gapsOf (s .now) n) ≡ true ⌝ }
+    requires { ⌜ Small t ⌝ }
+    ensures { λ r. ⌜ r ≡ timeoutBy t now (gapsOf (s .entry .now) n) ⌝ }
+{
+    let mut timeout = Opt::None;
+    let mut i = n;
+    while 0 < i {
+        i -= 1;
+        let left = until(due_at(super::read(s, i), t), now);
+        timeout = rtp::opt::opt_min(Opt::Some(left), timeout);
+    }
+    timeout
+}
+
+// How many gaps at the front were NACKed at least `max` times.
+pub fn count_lost(s: &[u64], n: usize, max: u32) -> usize
+    requires { ⌜ GAP-WORDS * n ≤ length (now s) ⌝ }
+    ensures { λ r. ⌜ r ≡ length (leading (tried max) (gapsOf (now (s .entry)) n)) ⌝ }
+{
+    let mut i = 0;
+    while i < n {
+        let g = super::read(s, i);
+        if g.nacks < max as u64 {
+            return i;
+        }
+        i += 1;
+    }
+    i
+}

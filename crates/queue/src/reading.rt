@@ -1,0 +1,211 @@
+// The calls that leave the session as it is: the two timeouts, the figures of repairs and the highest number. An accepted one still puts
+// zeros into the unused places.
+ghost use mathlib.Core.Path.{_≡_};
+ghost use mathlib.Core.List.{List, [], _∷_};
+ghost use Prim.Native.Nat.{ℕ, _*_, _≤_, _<_};
+ghost use lib.Dec.{T};
+ghost use lib.ListN.{length, take};
+ghost use Rattle.durations.specs.Seconds.{largest};
+ghost use Rattle.rtx_state.specs.RoundTrip.{optRttInRange};
+ghost use Rattle.config.specs.declared.RtpInboundQueueMode.the-variants.{SortedQueue};
+ghost use Rattle.config.specs.Timings.{nackTimings};
+ghost use Rattle.config.specs.Valid.{settingsValid};
+ghost use Rattle.packet_gaps.specs.Gaps.{Small};
+ghost use Rattle.model.specs.Records.{Entry, highestOf};
+ghost use Rattle.model.specs.Poll as Poll;
+ghost use Rattle.model.specs.Valid.{lastSound};
+ghost use Rattle.model.specs.Storage.{ENTRY-WORDS, entryOf, entriesOf};
+ghost use Rattle.model.specs.Calls as Calls;
+ghost use Rattle.queue.specs.Answers.{timeoutAnswer, statsAnswer, highestAnswer, stored, Does};
+use super::HighestAnswer;
+use super::StatsAnswer;
+use super::TimeoutAnswer;
+use config::NackTimings;
+use config::RtpInboundQueueMode;
+use config::Settings;
+use model::LastReceived;
+use model::Queue;
+use model::Session;
+use rtp::ExtendedRtpTimestamp;
+use rtp::opt::Opt;
+use rtx_state::OptRtt;
+use stats::OptRtxStats;
+
+// The measured round trip; a session without RTX has none.
+fn estimate_of(q: Queue) -> OptRtt
+    ensures { λ r. ⌜ r ≡ Poll.estimateOf q ⌝ }
+{
+    let config = q.config;
+    let rtx = q.rtx;
+    if config.senders.has_rtx {
+        rtx.rtt
+    } else {
+        OptRtt::None
+    }
+}
+
+// After how long a gap is NACKed, first and again.
+pub fn nack_timings(q: Queue) -> NackTimings
+    requires { ⌜ T (settingsValid (q .config .settings)) × T (optRttInRange (q .rtx .rtt)) ⌝ }
+    ensures { λ r. ⌜ r ≡ nackTimings (q .config .settings) (Poll.estimateOf q) ⌝ }
+    ensures { λ r. ⌜ Small r ⌝ }
+{
+    let config = q.config;
+    let set = config.settings;
+    set.nack_timings(estimate_of(q))
+}
+
+// Nanoseconds until the front entry of a sorted queue, which has this timestamp, is due.
+fn until_front(set: Settings, last: LastReceived, timestamp: u64, now: u64) -> Opt
+    requires { ⌜ T (settingsValid set) × T (lastSound now last) × (timestamp ≤ largest) × (now ≤ largest) ⌝ }
+    ensures { λ r. ⌜ ((e : Entry) (es : List Entry) → e .timestamp ≡ timestamp → r ≡ Poll.receiveTimeout SortedQueue set last (e ∷ es) now) ⌝ }
+{
+    match last {
+        LastReceived::None => Opt::None,
+        LastReceived::Some(r) => Opt::Some(handout::timeout_receive(
+            r.instant,
+            r.timestamp,
+            ExtendedRtpTimestamp(timestamp),
+            set.clock_rate,
+            set.target_delay(),
+            now,
+        )),
+    }
+}
+
+// Nanoseconds until the front of the n entries is due.
+fn receive_timeout(q: Queue, entries: &[u64], n: usize, now: u64) -> Opt
+    requires { ⌜ T (settingsValid (q .config .settings)) × T (lastSound now (q .last)) × (now ≤ largest) ⌝ }
+    requires { ⌜ ENTRY-WORDS * n ≤ length (entries .now) ⌝ }
+    requires { ⌜ (0 < n → (p : List ℕ) → entryOf (take ENTRY-WORDS (entries .now)) p .timestamp ≤ largest) ⌝ }
+    ensures { λ r. ⌜ ((bytes : List ℕ) → r ≡ Poll.receiveTimeout (q .config .settings .mode) (q .config .settings) (q .last) (entriesOf (entries .entry .now) bytes n) now) ⌝ }
+{
+    if n == 0 {
+        return Opt::None;
+    }
+    let config = q.config;
+    let set = config.settings;
+    let mode = set.mode;
+    let last = q.last;
+    match mode {
+        RtpInboundQueueMode::Passthrough => Opt::Some(0),
+        RtpInboundQueueMode::SortedQueue => {
+            until_front(set, last, entries::read(entries, 0).timestamp, now)
+        }
+    }
+}
+
+// Nanoseconds until `poll` has a packet to hand out.
+pub fn timeout_receive(
+    session: Session,
+    entries: &mut [u64],
+    payloads: &mut [u8],
+    gaps: &mut [u64],
+    remembered: &mut [u64],
+    now: u64,
+) -> TimeoutAnswer
+    ensures { λ r. ⌜ Does (Calls.timeoutReceive now) (stored session (entries .entry .now) (payloads .entry .now) (gaps .entry .now) (remembered .entry .now)) (timeoutAnswer r) (stored session (entries .exit .now) (payloads .exit .now) (gaps .exit .now) (remembered .exit .now)) [] ⌝ }
+{
+    let refusal = super::check::session_and_clock(
+        session,
+        entries,
+        payloads,
+        gaps,
+        remembered,
+        now,
+    );
+    if refusal != 0 {
+        return TimeoutAnswer::Refused(refusal);
+    }
+    super::check::settle(session, entries, payloads, gaps, remembered);
+    TimeoutAnswer::Timeout(receive_timeout(session.queue, entries, session.entries, now))
+}
+
+// Nanoseconds until `poll_nack` has a number to give.
+pub fn timeout_nack(
+    session: Session,
+    entries: &mut [u64],
+    payloads: &mut [u8],
+    gaps: &mut [u64],
+    remembered: &mut [u64],
+    now: u64,
+) -> TimeoutAnswer
+    ensures { λ r. ⌜ Does (Calls.timeoutNack now) (stored session (entries .entry .now) (payloads .entry .now) (gaps .entry .now) (remembered .entry .now)) (timeoutAnswer r) (stored session (entries .exit .now) (payloads .exit .now) (gaps .exit .now) (remembered .exit .now)) [] ⌝ }
+{
+    let refusal = super::check::session_and_clock(
+        session,
+        entries,
+        payloads,
+        gaps,
+        remembered,
+        now,
+    );
+    if refusal != 0 {
+        return TimeoutAnswer::Refused(refusal);
+    }
+    super::check::settle(session, entries, payloads, gaps, remembered);
+    let timings = nack_timings(session.queue);
+    TimeoutAnswer::Timeout(packet_gaps::nacks::timeout_nacks(gaps, session.gaps, now, timings))
+}
+
+fn figures(q: Queue) -> OptRtxStats
+    ensures { λ r. ⌜ r ≡ Poll.figures q ⌝ }
+{
+    let config = q.config;
+    let rtx = q.rtx;
+    if config.senders.has_rtx {
+        OptRtxStats::Some(rtx.stats())
+    } else {
+        OptRtxStats::None
+    }
+}
+
+// The figures of repairs, which a session without RTX has none of.
+pub fn rtx_stats(
+    session: Session,
+    entries: &mut [u64],
+    payloads: &mut [u8],
+    gaps: &mut [u64],
+    remembered: &mut [u64],
+) -> StatsAnswer
+    ensures { λ r. ⌜ Does Calls.rtxStats (stored session (entries .entry .now) (payloads .entry .now) (gaps .entry .now) (remembered .entry .now)) (statsAnswer r) (stored session (entries .exit .now) (payloads .exit .now) (gaps .exit .now) (remembered .exit .now)) [] ⌝ }
+{
+    let refusal = super::check::session(session, entries, payloads, gaps, remembered);
+    if refusal != 0 {
+        return StatsAnswer::Refused(refusal);
+    }
+    super::check::settle(session, entries, payloads, gaps, remembered);
+    StatsAnswer::Stats(figures(session.queue))
+}
+
+fn highest(last: LastReceived) -> HighestAnswer
+    ensures { λ r. ⌜ highestAnswer r ≡ Calls.highest (highestOf last) ⌝ }
+{
+    match last {
+        LastReceived::None => HighestAnswer::None,
+        LastReceived::Some(r) => {
+            let number = r.number;
+            HighestAnswer::Number(number)
+        }
+    }
+}
+
+// The highest number that a media packet had.
+pub fn highest_sequence_number_received(
+    session: Session,
+    entries: &mut [u64],
+    payloads: &mut [u8],
+    gaps: &mut [u64],
+    remembered: &mut [u64],
+) -> HighestAnswer
+    ensures { λ r. ⌜ Does Calls.highestReceived (stored session (entries .entry .now) (payloads .entry .now) (gaps .entry .now) (remembered .entry .now)) (highestAnswer r) (stored session (entries .exit .now) (payloads .exit .now) (gaps .exit .now) (remembered .exit .now)) [] ⌝ }
+{
+    let refusal = super::check::session(session, entries, payloads, gaps, remembered);
+    if refusal != 0 {
+        return HighestAnswer::Refused(refusal);
+    }
+    super::check::settle(session, entries, payloads, gaps, remembered);
+    let queue = session.queue;
+    let last = queue.last;
+    highest(last)
+}

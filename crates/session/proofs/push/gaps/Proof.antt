@@ -1,0 +1,65 @@
+-- `gaps` meets its contract, arm by arm.
+use mathlib.Core.Path.{_∙_}
+use Rattle.session.specs.Place.{place}
+use Rattle.model.specs.Table.{tooManyGaps, refuseIf}
+use borrow.Author.Needs.{needs}
+use Rattle.session.proofs.push.gaps.Statement.{statement}
+use Rattle.session.proofs.push.gaps.Tie as tie
+
+enum-known-place : tie.Need-enum-known-place
+enum-known-place c = search needs
+
+step-requires : tie.Need-step-requires
+step-requires c κs = search needs
+
+gaps-full-requires : tie.Need-gaps-full-requires
+gaps-full-requires c κs = search needs
+
+enum-told : tie.Need-enum-told
+enum-told c = search needs
+
+enum-told-2 : tie.Need-enum-told-2
+enum-told-2 c = search needs
+
+enum-told-3 : tie.Need-enum-told-3
+enum-told-3 c = search needs
+
+enum-told-4 : tie.Need-enum-told-4
+enum-told-4 c = search needs
+
+returns : tie.Need-returns
+unfolding tooManyGaps place
+returns c = λ l e. rw (c .before .before .before .place .given .1, e) (c .gaps-full .ensures ∙ rw (c .before .step .ensures))
+
+returns-2 : tie.Need-returns-2
+unfolding tooManyGaps place refuseIf
+returns-2 c = λ l e. cc
+
+returns-3 : tie.Need-returns-3
+unfolding tooManyGaps place refuseIf
+returns-3 c = λ l e. cc
+
+returns-4 : tie.Need-returns-4
+unfolding tooManyGaps place refuseIf
+returns-4 c = λ l e. cc
+
+returns-5 : tie.Need-returns-5
+unfolding tooManyGaps place refuseIf
+returns-5 c = λ l e. cc
+
+pub gaps-spec : {M : Type 1} → statement M
+gaps-spec =
+    tie.close
+    (tie.spec
+    enum-known-place
+    step-requires
+    gaps-full-requires
+    enum-told
+    enum-told-2
+    enum-told-3
+    enum-told-4
+    returns
+    returns-2
+    returns-3
+    returns-4
+    returns-5)

@@ -1,0 +1,62 @@
+-- `raised`, arm by arm.
+use Prim.Native.Nat.{_+_}
+use Rattle.session.proofs.Counts.{count-none, count-here, count-past}
+use Rattle.session.specs.Place.{fate, raisedBy}
+use native.Mathlib.Omega.{arith}
+use mathlib.Core.Path.{_≡_, _∙_}
+use borrow.Author.Needs.{needs}
+use Rattle.session.proofs.rtx.raised.Statement.{statement}
+use Rattle.session.proofs.rtx.raised.Tie as tie
+
+enum-told : tie.Need-enum-told
+enum-told c = search needs
+
+next-count-requires : tie.Need-next-count-requires
+next-count-requires c κs = search needs
+
+enum-told-2 : tie.Need-enum-told-2
+enum-told-2 c = search needs
+
+next-count-requires-2 : tie.Need-next-count-requires-2
+next-count-requires-2 c κs = search needs
+
+enum-told-3 : tie.Need-enum-told-3
+enum-told-3 c = search needs
+
+returns : tie.Need-returns
+unfolding fate raisedBy
+returns c = rw (c .before .before .enum-told3 .given .1) (count-here (c .before .before .before .before .args .rtx .«received_in_time» + 1) _ (omega arith))
+
+add-count : tie.Need-add-count
+add-count c = search needs
+
+count-requires : tie.Need-count-requires
+count-requires c κs = search needs
+
+returns-2 : tie.Need-returns-2
+unfolding fate raisedBy
+returns-2 c = rw (c .before .enum-told .given .1) (c .next-count .ensures)
+
+returns-3 : tie.Need-returns-3
+unfolding fate raisedBy
+returns-3 c = rw (c .before .enum-told2 .given .1) (c .next-count2 .ensures)
+
+returns-4 : tie.Need-returns-4
+unfolding fate raisedBy
+returns-4 c = rw (c .before .before .before .before .enum-told3 .given .1) (c .count .ensures ∙ count-past (c .before .before .before .before .before .before .args .rtx .«received_in_time» + 1) _ (omega arith))
+
+pub raised-spec : {M : Type 1} → statement M
+raised-spec =
+    tie.close
+    (tie.spec
+    enum-told
+    next-count-requires
+    enum-told-2
+    next-count-requires-2
+    enum-told-3
+    returns
+    add-count
+    count-requires
+    returns-2
+    returns-3
+    returns-4)

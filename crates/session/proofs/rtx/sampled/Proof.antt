@@ -1,0 +1,30 @@
+-- `sampled`, arm by arm.
+use Rattle.session.specs.Place.{sampledAt}
+use borrow.Author.Needs.{needs}
+use Rattle.session.proofs.rtx.sampled.Statement.{statement}
+use Rattle.session.proofs.rtx.sampled.Tie as tie
+
+enum-told : tie.Need-enum-told
+enum-told c = search needs
+
+enum-known-nacked : tie.Need-enum-known-nacked
+enum-known-nacked c = search needs
+
+since-requires : tie.Need-since-requires
+since-requires c κs = search needs
+
+update-rtt-requires : tie.Need-update-rtt-requires
+update-rtt-requires c κs = search needs
+
+returns : tie.Need-returns
+unfolding sampledAt
+returns c = cc
+
+returns-2 : tie.Need-returns-2
+unfolding sampledAt
+returns-2 c = cc
+
+pub sampled-spec : {M : Type 1} → statement M
+sampled-spec =
+    tie.close
+    (tie.spec enum-told enum-known-nacked since-requires update-rtt-requires returns returns-2)

@@ -1,0 +1,101 @@
+// The parts of the queue (000) that need no storage: which check turns a call back by the session alone, and what a call makes of the
+// records that go by value. Each function is one definition of `model`.
+ghost use mathlib.Core.Path.{_≡_};
+ghost use Prim.Native.Nat.{_+_, _<_, _^_};
+ghost use Rattle.model.specs.Records as Records;
+ghost use Rattle.model.specs.Push as Push;
+ghost use Rattle.model.specs.Poll as Poll;
+use config::RtpInboundQueueMode;
+use model::Counters;
+use model::LastReceived;
+use model::LastReturned;
+use model::Queue;
+use rtp::ExtendedRtpTimestamp;
+use rtp::ExtendedSequenceNumber;
+use rtp::RtpTimestamp;
+use rtp::SequenceNumber;
+
+pub mod check;
+pub mod push;
+pub mod rtx;
+
+// The number that `got` stands for; before the first media packet its own, in cycle 0.
+pub fn extended_number(q: Queue, got: SequenceNumber) -> ExtendedSequenceNumber
+    ensures { λ r. ⌜ r .0 ≡ Push.extendedNumber q (got .0) ⌝ }
+{
+    let last = q.last;
+    match last {
+        LastReceived::None => ExtendedSequenceNumber(got.0 as u64),
+        LastReceived::Some(r) => r.number.guess_extended(got),
+    }
+}
+
+pub fn extended_timestamp(q: Queue, got: RtpTimestamp) -> ExtendedRtpTimestamp
+    ensures { λ r. ⌜ r .0 ≡ Push.extendedTimestamp q (got .0) ⌝ }
+{
+    let last = q.last;
+    match last {
+        LastReceived::None => ExtendedRtpTimestamp(got.0 as u64),
+        LastReceived::Some(r) => r.timestamp.guess_extended(got),
+    }
+}
+
+// Whether the number is at or below the last returned one.
+fn at_or_below(number: ExtendedSequenceNumber, returned: LastReturned) -> bool
+    ensures { λ r. ⌜ r ≡ Push.atOrBelow (number .0) (Records.returnedOf returned) ⌝ }
+{
+    match returned {
+        LastReturned::None => false,
+        LastReturned::Some(n) => number.0 <= n.0,
+    }
+}
+
+// Whether a sorted queue has passed the number.
+pub fn passed(q: Queue, number: ExtendedSequenceNumber) -> bool
+    ensures { λ r. ⌜ r ≡ Push.passed (q .config .settings .mode) (Records.returnedOf (q .returned)) (number .0) ⌝ }
+{
+    let config = q.config;
+    let settings = config.settings;
+    let mode = settings.mode;
+    let returned = q.returned;
+    match mode {
+        RtpInboundQueueMode::Passthrough => false,
+        RtpInboundQueueMode::SortedQueue => at_or_below(number, returned),
+    }
+}
+
+// The clock and the jitter follow every media packet, also one that is then dropped.
+pub fn heard(q: Queue, now: u64, timestamp: ExtendedRtpTimestamp) -> Queue
+    ensures { λ r. ⌜ r ≡ Push.heard now (timestamp .0) q ⌝ }
+{
+    let last = q.last;
+    let mut next = q;
+    next.clock = now;
+    match last {
+        LastReceived::None => next,
+        LastReceived::Some(r) => {
+            let jitter = q.jitter.update(now, timestamp, r.instant, r.timestamp);
+            next.jitter = jitter;
+            next
+        }
+    }
+}
+
+// n numbers became lost.
+pub fn lose(q: Queue, n: u64) -> Queue
+    requires { ⌜ q .counters .lost + n < 2 ^ 64 ⌝ }
+    ensures { λ r. ⌜ r ≡ Poll.lose n q ⌝ }
+{
+    let counters = q.counters;
+    let loss = q.loss.record_lost(n);
+    let counted = Counters {
+        dropped: counters.dropped,
+        received: counters.received,
+        bytes: counters.bytes,
+        lost: counters.lost + n,
+    };
+    let mut next = q;
+    next.counters = counted;
+    next.loss = loss;
+    next
+}

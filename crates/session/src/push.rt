@@ -1,0 +1,243 @@
+// `push` (000) on the records that go by value: what is counted, and which check turns a media packet back.
+ghost use mathlib.Core.Path.{_≡_};
+ghost use mathlib.Core.Bool.{cond, _&&_};
+ghost use mathlib.Core.List.{List, [], _∷_};
+ghost use Prim.Native.Nat.{_+_, _-_, _<_, _≤_};
+ghost use lib.Dec.{leb, ltb};
+ghost use lib.ListN.{length};
+ghost use Rattle.durations.specs.Seconds.{largest};
+ghost use Rattle.packet_loss.specs.Loss as Loss;
+ghost use Rattle.refusals.specs.Refusals as Refusals;
+ghost use Rattle.model.specs.Records as Records;
+ghost use Rattle.model.specs.Rules as Rules;
+ghost use Rattle.model.specs.Push as Push;
+ghost use Rattle.model.specs.Table as Table;
+ghost use Rattle.session.specs.Place as Spec;
+use config::Settings;
+use durations::LARGEST;
+use model::Counters;
+use model::LastReceived;
+use model::LastReturned;
+use model::Queue;
+use model::Received;
+use rtp::ExtendedRtpTimestamp;
+use rtp::ExtendedSequenceNumber;
+
+// Where a media number stands: before any other packet, above the highest by at most 1,000 or by more, in an open gap, or elsewhere.
+pub enum Place {
+    First,
+    Near(u64),
+    Far(u64),
+    Fills,
+    Other,
+}
+
+// Whether the packet is queued.
+pub fn waits(place: Place) -> bool
+    ensures { λ r. ⌜ r ≡ Rules.waits (Spec.place place) ⌝ }
+{
+    match place {
+        Place::Other => false,
+        Place::First => true,
+        Place::Near(_) => true,
+        Place::Far(_) => true,
+        Place::Fills => true,
+    }
+}
+
+fn received_at(now: u64, timestamp: u64, number: u64) -> LastReceived
+    ensures { λ r. ⌜ r ≡ Push.lastAfter now timestamp number Rules.first LastReceived.None ⌝ }
+{
+    LastReceived::Some(Received {
+        instant: now,
+        timestamp: ExtendedRtpTimestamp(timestamp),
+        number: ExtendedSequenceNumber(number),
+    })
+}
+
+// Forward progress only.
+fn last_after(last: LastReceived, now: u64, timestamp: u64, number: u64, place: Place) -> LastReceived
+    ensures { λ r. ⌜ r ≡ Push.lastAfter now timestamp number (Spec.place place) last ⌝ }
+{
+    match place {
+        Place::First => received_at(now, timestamp, number),
+        Place::Near(_) => received_at(now, timestamp, number),
+        Place::Far(_) => received_at(now, timestamp, number),
+        Place::Fills => last,
+        Place::Other => last,
+    }
+}
+
+fn count_dropped(c: Counters) -> Counters
+    requires { ⌜ c .dropped < largest ⌝ }
+    ensures { λ r. ⌜ r ≡ Push.countDropped c ⌝ }
+{
+    Counters {
+        dropped: c.dropped + 1,
+        received: c.received,
+        bytes: c.bytes,
+        lost: c.lost,
+    }
+}
+
+fn count_received(c: Counters, size: u64) -> Counters
+    requires { ⌜ (c .received < largest) × (c .bytes + size ≤ largest) ⌝ }
+    ensures { λ r. ⌜ r ≡ Push.countReceived size c ⌝ }
+{
+    Counters {
+        dropped: c.dropped,
+        received: c.received + 1,
+        bytes: c.bytes + size,
+        lost: c.lost,
+    }
+}
+
+// The queue after a packet that is dropped.
+pub fn dropped(q: Queue, now: u64, timestamp: ExtendedRtpTimestamp) -> Queue
+    requires { ⌜ q .counters .dropped < largest ⌝ }
+    ensures { λ r. ⌜ r ≡ Records.withCounters (Push.heard now (timestamp .0) q) (Push.countDropped (q .counters)) ⌝ }
+{
+    let counters = count_dropped(q.counters);
+    let mut next = super::heard(q, now, timestamp);
+    next.counters = counters;
+    next
+}
+
+// The queue after a packet that is queued.
+pub fn queued(q: Queue, now: u64, timestamp: u64, number: u64, size: u64, place: Place) -> Queue
+    requires { ⌜ (q .counters .received < largest) × (q .counters .bytes + size ≤ largest) ⌝ }
+    ensures { λ r. ⌜ r ≡ Records.withLoss (Records.withCounters (Records.withLast (Push.heard now timestamp q) (Push.lastAfter now timestamp number (Spec.place place) (q .last))) (Push.countReceived size (q .counters))) (Loss.recordReceived (q .loss)) ⌝ }
+{
+    let counters = count_received(q.counters, size);
+    let before = q.last;
+    let last = last_after(before, now, timestamp, number, place);
+    let loss = q.loss.record_received();
+    let heard = super::heard(q, now, ExtendedRtpTimestamp(timestamp));
+    let config = heard.config;
+    let returned = heard.returned;
+    let rtx = heard.rtx;
+    let jitter = heard.jitter;
+    Queue {
+        config,
+        clock: now,
+        last,
+        returned,
+        rtx,
+        counters,
+        jitter,
+        loss,
+    }
+}
+
+// The queue after its front entry, of this number, was pushed out.
+pub fn pushed_out(q: Queue, number: u64) -> Queue
+    requires { ⌜ q .counters .dropped < largest ⌝ }
+    ensures { λ r. ⌜ r ≡ Records.withReturned (Records.withCounters q (Push.countDropped (q .counters))) number ⌝ }
+{
+    let counters = count_dropped(q.counters);
+    let returned = LastReturned::Some(ExtendedSequenceNumber(number));
+    let config = q.config;
+    let last = q.last;
+    let rtx = q.rtx;
+    let jitter = q.jitter;
+    let loss = q.loss;
+    Queue {
+        config,
+        clock: q.clock,
+        last,
+        returned,
+        rtx,
+        counters,
+        jitter,
+        loss,
+    }
+}
+
+// 14 for one value.
+pub fn count(value: u64) -> u64
+    ensures { λ r. ⌜ r ≡ Table.countRefusal (value ∷ []) ⌝ }
+{
+    if LARGEST < value {
+        return refusals::COUNT;
+    }
+    0
+}
+
+// 14 for a counter that would go up by one.
+pub fn next_count(value: u64) -> u64
+    ensures { λ r. ⌜ r ≡ Table.countRefusal ((value + 1) ∷ []) ⌝ }
+{
+    if LARGEST <= value {
+        return refusals::COUNT;
+    }
+    0
+}
+
+// 14 for what a packet would raise; `full` says that the front entry would be pushed out.
+fn raised(c: Counters, size: u64, waits: bool, full: bool) -> u64
+    requires { ⌜ (c .bytes ≤ largest) × (size ≤ largest) ⌝ }
+    ensures { λ r. ⌜ r ≡ Table.countRefusal (cond waits ((c .received + 1) ∷ (c .bytes + size) ∷ cond full ((c .dropped + 1) ∷ []) []) ((c .dropped + 1) ∷ [])) ⌝ }
+{
+    if !waits {
+        return next_count(c.dropped);
+    }
+    if LARGEST <= c.received {
+        return refusals::COUNT;
+    }
+    if LARGEST < c.bytes + size {
+        return refusals::COUNT;
+    }
+    if full {
+        return next_count(c.dropped);
+    }
+    0
+}
+
+// 14
+pub fn counts(c: Counters, timestamp: u64, number: u64, size: u64, waits: bool, full: bool) -> u64
+    requires { ⌜ (c .bytes ≤ largest) × (size ≤ largest) ⌝ }
+    ensures { λ r. ⌜ r ≡ Table.countRefusal (timestamp ∷ number ∷ cond waits ((c .received + 1) ∷ (c .bytes + size) ∷ cond full ((c .dropped + 1) ∷ []) []) ((c .dropped + 1) ∷ [])) ⌝ }
+{
+    if LARGEST < timestamp {
+        return refusals::COUNT;
+    }
+    if LARGEST < number {
+        return refusals::COUNT;
+    }
+    raised(c, size, waits, full)
+}
+
+fn step(h: u64, number: u64) -> u64
+    ensures { λ r. ⌜ r ≡ number - h ⌝ }
+{
+    if h < number { number - h } else { 0 }
+}
+
+// 12 with so many gaps open and a step of s above the highest.
+fn gaps_full(max_gaps: usize, opened: usize, s: u64) -> u64
+    requires { ⌜ opened ≤ «max_gaps» ⌝ }
+    ensures { λ r. ⌜ r ≡ Table.refuseIf (ltb «max_gaps» (opened + (s - 1)) && leb 2 s) Refusals.GAPS-FULL ⌝ }
+{
+    if s < 2 {
+        return 0;
+    }
+    let left = max_gaps - opened;
+    if (left as u64) < s - 1 {
+        return refusals::GAPS_FULL;
+    }
+    0
+}
+
+// 12, where the gaps l are open.
+pub fn gaps(settings: Settings, opened: usize, number: u64, place: Place) -> u64
+    requires { ⌜ opened ≤ settings .«max_gaps» ⌝ }
+    ensures { λ r. ⌜ ((l : List Records.Gap) → length l ≡ opened → r ≡ Table.refuseIf (Table.tooManyGaps settings l number (Spec.place place)) Refusals.GAPS-FULL) ⌝ }
+{
+    match place {
+        Place::Near(h) => gaps_full(settings.max_gaps, opened, step(h, number)),
+        Place::First => 0,
+        Place::Far(_) => 0,
+        Place::Fills => 0,
+        Place::Other => 0,
+    }
+}

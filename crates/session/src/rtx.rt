@@ -1,0 +1,105 @@
+// `push_rtx` (000) on the records that go by value: what is counted and sampled, and which check turns a repair back.
+ghost use mathlib.Core.Path.{_≡_};
+ghost use mathlib.Core.List.{List, [], _∷_};
+ghost use Prim.Native.Nat.{_+_, _-_, _≤_};
+ghost use Rattle.durations.specs.Seconds.{largest};
+ghost use Rattle.rtx_state.specs.Repair as Repair;
+ghost use Rattle.packet_loss.specs.Loss as Loss;
+ghost use Rattle.model.specs.Records as Records;
+ghost use Rattle.model.specs.Push as Push;
+ghost use Rattle.model.specs.Table as Table;
+ghost use Rattle.session.specs.Place as Spec;
+use durations::LARGEST;
+use model::Queue;
+use rtp::opt::Opt;
+use rtx_state::RtxState;
+
+// What becomes of a repair.
+pub enum Fate {
+    TooLate,
+    Recovered,
+    Redundant,
+}
+
+// How long it is since `then`.
+fn since(now: u64, then: u64) -> u64
+    ensures { λ r. ⌜ r ≡ now - then ⌝ }
+{
+    if then < now { now - then } else { 0 }
+}
+
+// One more sample, if the number was NACKed just once, at this instant.
+fn sampled(state: RtxState, now: u64, nacked: Opt) -> RtxState
+    ensures { λ r. ⌜ r ≡ Spec.sampledAt now nacked state ⌝ }
+{
+    match nacked {
+        Opt::None => state,
+        Opt::Some(i) => state.update_rtt(since(now, i)),
+    }
+}
+
+// The queue after a repair that came too late.
+pub fn too_late(q: Queue, now: u64, nacked: Opt) -> Queue
+    ensures { λ r. ⌜ r ≡ Records.withRtx (Records.withClock q now) (Spec.sampledAt now nacked (Repair.recordTooLate (q .rtx))) ⌝ }
+{
+    let rtx = sampled(q.rtx.record_too_late(), now, nacked);
+    let mut next = q;
+    next.clock = now;
+    next.rtx = rtx;
+    next
+}
+
+// The queue after a repair of a number that was not missing.
+pub fn redundant(q: Queue, now: u64) -> Queue
+    ensures { λ r. ⌜ r ≡ Records.withRtx (Records.withClock q now) (Repair.recordRedundant (q .rtx)) ⌝ }
+{
+    let rtx = q.rtx.record_redundant();
+    let mut next = q;
+    next.clock = now;
+    next.rtx = rtx;
+    next
+}
+
+// The queue after a repair that filled its gap.
+pub fn recovered(q: Queue, now: u64, nacked: Opt, size: u64) -> Queue
+    ensures { λ r. ⌜ r ≡ Records.withLoss (Records.withRtx (Records.withClock q now) (Spec.sampledAt now nacked (Repair.recordInTime (q .rtx) size))) (Loss.recordLost (q .loss) 1) ⌝ }
+{
+    let rtx = sampled(q.rtx.record_in_time(size), now, nacked);
+    let loss = q.loss.record_lost(1);
+    let mut next = q;
+    next.clock = now;
+    next.rtx = rtx;
+    next.loss = loss;
+    next
+}
+
+// 14 for what a repair would raise.
+fn raised(rtx: RtxState, size: u64, fate: Fate) -> u64
+    requires { ⌜ (rtx .«bytes_received» ≤ largest) × (size ≤ largest) ⌝ }
+    ensures { λ r. ⌜ r ≡ Table.countRefusal (Spec.raisedBy rtx size (Spec.fate fate)) ⌝ }
+{
+    match fate {
+        Fate::TooLate => super::push::next_count(rtx.received_too_late),
+        Fate::Redundant => super::push::next_count(rtx.received_redundant),
+        Fate::Recovered => {
+            if LARGEST <= rtx.received_in_time {
+                return refusals::COUNT;
+            }
+            super::push::count(rtx.bytes_received + size)
+        }
+    }
+}
+
+// 14
+pub fn counts(rtx: RtxState, timestamp: u64, number: u64, size: u64, fate: Fate) -> u64
+    requires { ⌜ (rtx .«bytes_received» ≤ largest) × (size ≤ largest) ⌝ }
+    ensures { λ r. ⌜ r ≡ Table.countRefusal (timestamp ∷ number ∷ Spec.raisedBy rtx size (Spec.fate fate)) ⌝ }
+{
+    if LARGEST < timestamp {
+        return refusals::COUNT;
+    }
+    if LARGEST < number {
+        return refusals::COUNT;
+    }
+    raised(rtx, size, fate)
+}
