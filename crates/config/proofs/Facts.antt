@@ -8,7 +8,7 @@ use Rattle.rtx_state.specs.RoundTrip.{optRttInRange}
 use Rattle.rtx_state.specs.declared.OptRtt.{OptRtt}
 use Rattle.rtx_state.specs.declared.OptRtt.the-variants.{None, Some}
 use Rattle.rtx_state.proofs.Range.{delay-lt}
-use Rattle.config.specs.Timings.{resendDelayOf, targetDelay}
+use Rattle.config.specs.Timings.{resendDelayOf}
 use Rattle.config.specs.Valid.{within, longest, settingsValid, sendersValid}
 use Rattle.config.specs.declared.Settings.{Settings}
 use Rattle.config.specs.declared.Senders.{Senders}
@@ -76,9 +76,6 @@ usable s t =
 pub payload-types : (s : Senders) → T (sendersValid s) → (s .pt ≤ 127) × (s .«rtx_pt» ≤ 127)
 unfolding sendersValid
 payload-types s h = (leb→le (s .pt) 127 (and-l (leb (s .pt) 127) (leb (s .«rtx_pt») 127) h), leb→le (s .«rtx_pt») 127 (and-r (leb (s .pt) 127) (leb (s .«rtx_pt») 127) h))
-
-pub target-le : (s : Settings) → T (settingsValid s) → targetDelay s ≤ longest
-target-le s h = usable s h .delay
 
 pub resend-lt : (s : Settings) (rtt : OptRtt) → s .«default_nack_resend_delay» ≤ longest → T (optRttInRange rtt) → resendDelayOf s rtt < 2 ^ 54
 unfolding resendDelayOf optRttInRange

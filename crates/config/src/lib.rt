@@ -1,10 +1,10 @@
 // Settings (003) of a session, flat: the opening checks every field, whether the mode uses it or not (01, refusal 1).
 ghost use mathlib.Core.Path.{_≡_};
-ghost use Prim.Native.Nat.{_≤_, _<_, _^_};
+ghost use Prim.Native.Nat.{_<_, _^_};
 ghost use lib.Dec.{T};
 ghost use Rattle.rtx_state.specs.RoundTrip.{optRttInRange};
 ghost use Rattle.config.specs.Timings.{nackTimings, targetDelay};
-ghost use Rattle.config.specs.Valid.{longest, settingsValid, sendersValid};
+ghost use Rattle.config.specs.Valid.{settingsValid, sendersValid};
 use rtp::Ssrc;
 use rtx_state::OptRtt;
 
@@ -69,7 +69,6 @@ impl Settings {
 
     pub fn target_delay(self) -> u64
         ensures { λ r. ⌜ r ≡ targetDelay self ⌝ }
-        ensures { λ r. ⌜ (T (settingsValid self) → r ≤ longest) ⌝ }
     {
         self.delay
     }

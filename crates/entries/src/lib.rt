@@ -136,6 +136,7 @@ pub fn pop_front(words: &mut [u64], bytes: &mut [u8], n: usize, out: &mut [u8]) 
     ensures { λ _. ⌜ now (words .exit) ≡ laid entryWords (length (now (words .entry))) (drop 1 (entriesOf (now (words .entry)) (now (bytes .entry)) n)) ⌝ }
     ensures { λ _. ⌜ now (bytes .exit) ≡ laid payloadBytes (length (now (bytes .entry))) (drop 1 (entriesOf (now (words .entry)) (now (bytes .entry)) n)) ⌝ }
     ensures { λ _. ⌜ now (out .exit) ≡ over (payloadOut (take 1 (entriesOf (now (words .entry)) (now (bytes .entry)) n))) (now (out .entry)) ⌝ }
+    ensures { λ r. ⌜ r .size ≤ PAYLOAD-BYTES ⌝ }
 {
     let e = read(words, 0);
     copy_out(bytes, e.size, out);

@@ -7,3 +7,13 @@ pub mod Placing
 pub mod Media
 pub mod Turned
 pub mod Pushing
+pub mod Holding
+pub mod Parted
+pub mod Fronts
+pub mod Handed
+pub mod Losing
+pub mod Drained
+pub mod Polling
+pub mod Nacking
+pub mod Repaired
+pub mod Repairing

@@ -1,17 +1,16 @@
 -- A media packet that is accepted: what its checks and check 16 give the functions that queue it, and that what they leave is what `model` says.
 use mathlib.Core.Path.{_≡_, refl, sym, ap, subst, _∙_}
 use mathlib.Core.Bool.{Bool, true, false, cond, not}
-use mathlib.Core.List.{List, [], _∷_, _++_, map}
+use mathlib.Core.List.{List, [], _∷_}
 use Prim.Native.Nat.{ℕ, suc, _+_, _*_, _-_, _≤_, _<_}
 use native.Mathlib.Omega.{arith}
-use lib.Dec.{T, leb, ltb, lit<, nltb→le, nleb→lt, ltb→lt}
+use lib.Dec.{T, leb, ltb, lit<, nltb→le, nleb→lt}
 use lib.Ieee.Bits.{is-true}
 use lib.ListN.{length, drop, length-drop}
 use borrow.Author.Tests.{lt-ltb, le-ltb, lt-leb, le-leb, ltb-true, ltb-false}
 use Rattle.words.specs.Blocks.{laid}
 use Rattle.words.specs.Order.{ascends}
 use Rattle.rtp.specs.declared.opt.Opt.{Opt}
-use Rattle.rtp.specs.declared.opt.Opt.the-variants.{None, Some}
 use Rattle.durations.specs.Seconds.{largest}
 use Rattle.refusals.specs.Refusals.{GAPS-FULL, orElse}
 use Rattle.refusals.proofs.Laws.{orElse-none}
@@ -19,18 +18,16 @@ use Rattle.packet_loss.specs.Loss.{recordReceived}
 use Rattle.config.specs.declared.Settings.{Settings}
 use Rattle.model.specs.declared.Queue.{Queue}
 use Rattle.model.specs.declared.Session.{Session}
-use Rattle.model.specs.Lists.{some?}
 use Rattle.model.specs.Records.{Entry, Gap, State, gapNumbers, highestOf, withLoss, withCounters, withLast, withReturned}
-use Rattle.model.specs.Rules.{is, without, gapsFrom, fresh, Place, first, near, far, fills, other, waits, between, gapsAfter}
+use Rattle.model.specs.Rules.{is, without, gapsFrom, fresh, Place, near, waits, between, gapsAfter}
 use Rattle.model.specs.Push.{insertSorted, mediaPlace, heard, lastAfter, countDropped, countReceived, afterQueued, afterDropped, frontOut, overfull, withinDepth}
-use Rattle.model.specs.Storage.{Stored, ENTRY-WORDS, PAYLOAD-BYTES, GAP-WORDS, entryWords, payloadBytes, gapWords, rememberedWords, entryPlaces, entriesOf, gapsOf, entriesLaid, payloadsLaid, gapsLaid, rememberedLaid, parse, write}
-use Rattle.model.specs.Table.{mediaValues, tooManyGaps, countRefusal, refuseIf, sessionSound, sessionRefusal}
-use Rattle.model.proofs.Lists.{Each, each-first, each-rest, each-imp, each-map, each-following, by-nand, arm-yes, arm-no, Rising, empty, rising-keep, rising-append, rising-map, rising-following, ascends-of-rising, length-keep, length-insert}
-use Rattle.model.proofs.Laid.{parse-write, gap-wide, length-words, gapsOf-laid, length-entriesOf, length-gapsOf, length-rememberedOf}
-use Rattle.model.proofs.Sound.{Under, GapIn, Sound}
+use Rattle.model.specs.Storage.{Stored, GAP-WORDS, entryWords, payloadBytes, gapWords, entryPlaces, entriesOf, gapsOf, entriesLaid, payloadsLaid, gapsLaid, rememberedLaid, parse, write}
+use Rattle.model.specs.Table.{mediaValues, tooManyGaps, countRefusal, refuseIf}
+use Rattle.model.proofs.Lists.{Each, each-first, each-rest, each-imp, each-map, each-following, by-nand, Rising, empty, rising-keep, rising-append, rising-map, rising-following, ascends-of-rising, length-keep, length-insert}
+use Rattle.model.proofs.Laid.{gap-wide, length-words, gapsOf-laid, length-entriesOf, length-gapsOf, length-rememberedOf}
+use Rattle.model.proofs.Sound.{Under}
 use Rattle.model.proofs.SoundQueue.{not-refused, counts-of}
 use Rattle.model.proofs.SoundPush.{Stands, is-first, is-near, is-far, is-gap, is-other, waiting-stands}
-use Rattle.model.proofs.SoundCalls.{payloads-fit, sound-session}
 use Rattle.words.proofs.Moves.{length-padded}
 use Rattle.packet_gaps.specs.Gaps.{GapsIn}
 use Rattle.entries.specs.declared.Entry as Row
@@ -38,7 +35,7 @@ use Rattle.entries.specs.Entries.{entry, firstNumber}
 use Rattle.session.specs.declared.push.Place as Code
 use Rattle.session.specs.Place.{place}
 use Rattle.queue.specs.Answers.{stored}
-use Rattle.queue.specs.Media.{Settled, Counts, Takes, Fit, packetRefusal, placed}
+use Rattle.queue.specs.Media.{Counts, Takes, Fit, packetRefusal, placed}
 use Rattle.queue.proofs.Settled.{Ready, ready}
 use Rattle.queue.proofs.Placing.{length-opened}
 

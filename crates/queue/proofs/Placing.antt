@@ -1,11 +1,10 @@
 -- Gaps after a media packet: what a number at its place asks of the gaps in storage, and how many there are then.
-use mathlib.Core.Path.{_≡_, refl, sym, ap, _∙_}
+use mathlib.Core.Path.{_≡_, sym, ap, _∙_}
 use mathlib.Core.Bool.{true}
 use mathlib.Core.List.{List, _++_, map}
-use Prim.Native.Nat.{ℕ, suc, _+_, _*_, _-_, _≤_, _<_}
+use Prim.Native.Nat.{ℕ, _+_, _*_, _-_, _≤_, _<_}
 use native.Mathlib.Omega.{arith}
 use lib.ListN.{length, drop, length-append, length-map, length-drop}
-use Rattle.words.specs.Words.{cut}
 use Rattle.words.specs.Order.{ascends, rank}
 use lib.Seq.{length-take-le}
 use Rattle.words.proofs.Ordered.{rank-le}

@@ -1,10 +1,9 @@
 -- `push` from the datagram to its answer: each check's number is `did`'s, and an accepted packet is placed as `did` says.
 use mathlib.Core.Path.{_≡_, refl, sym, ap, _∙_}
-use mathlib.Core.Bool.{Bool, true, false}
+use mathlib.Core.Bool.{true}
 use mathlib.Core.List.{List, []}
-use Prim.Native.Nat.{ℕ, _^_, _≤_, _<_}
+use Prim.Native.Nat.{ℕ, _≤_}
 use native.Mathlib.Omega.{arith}
-use lib.Dec.{eqb}
 use lib.ListN.{length}
 use borrow.Author.Tests.{eq-eqb, ne-eqb}
 use Rattle.rtp.specs.declared.opt.Opt.the-variants.{Some}
@@ -16,7 +15,7 @@ use Rattle.rtp_packet.specs.Header.{payloadOf}
 use Rattle.rtp_packet.specs.Datagram.{LARGEST-PAYLOAD, datagramRefusal, packetOf}
 use Rattle.model.specs.Records.{Entry, State}
 use Rattle.model.specs.Push.{mediaEntry, mediaPlace, afterMedia}
-use Rattle.model.specs.Storage.{Stored, PAYLOAD-BYTES, arrivalWord, parse, write}
+use Rattle.model.specs.Storage.{Stored, arrivalWord, parse, write}
 use Rattle.model.specs.Calls as Calls
 use Rattle.model.specs.Calls.{Answer, media, answered, taken, outputOf, outputAfter}
 use Rattle.model.specs.Table.{refusal, callRefusal, mediaRefusal, clockRefusal, sessionSound, sessionRefusal}
@@ -26,8 +25,9 @@ use Rattle.entries.specs.declared.Entry as Row
 use Rattle.entries.specs.Entries.{entry, Incoming}
 use Rattle.session.specs.declared.push.Place as Code
 use Rattle.session.specs.Place.{place}
-use Rattle.queue.specs.Media.{Settled, Counts, Fit, entryOf, packetRefusal, placed, placedAnswer, didPlace, didPacket}
-use Rattle.queue.proofs.Turned.{early, past, did-turned, settled-of}
+use Rattle.queue.specs.Media.{Counts, Fit, entryOf, packetRefusal, placed, placedAnswer, didPlace, didPacket}
+use Rattle.queue.proofs.Settled.{refused-is}
+use Rattle.queue.proofs.Turned.{assoc, settled-of}
 
 pub counts-are : (m : Stored) → Counts (m .session) (parse m)
 unfolding parse
@@ -62,26 +62,28 @@ module _ (instant : ℕ) (e : Row.Entry) (payload : List ℕ) (p : Code.Place) (
 -- ---- the datagram
 
 module _ (instant : ℕ) (d : List ℕ) (m : Stored) (r : ℕ) (e : r ≡ orElse (sessionRefusal m) (clockRefusal (m .session .queue) instant)) where
+  abbrev datagram : ℕ
+  datagram = datagramRefusal (m .session .queue .config .senders .pt) (m .session .queue .config .senders .ssrc .0) LARGEST-PAYLOAD d
+
+  abbrev later : ℕ
+  later = packetRefusal instant (mediaEntry instant d (parse m .queue)) (mediaPlace (parse m) (mediaEntry instant d (parse m .queue) .number)) (parse m)
+
+  chain : refusal (media instant d) m ≡ orElse r (orElse datagram later)
+  unfolding refusal callRefusal mediaRefusal packetRefusal parse
+  chain = assoc (sessionRefusal m) (clockRefusal (m .session .queue) instant) _ ∙ rw (← e)
+
   pub media-early : (r ≡ 0 → ⊥) → did (media instant d) m ≡ record { answer = Calls.refused r; stored = m; output = [] }
-  unfolding refusal callRefusal mediaRefusal turnedBack outputOf parse
-  media-early h = did-turned (media instant d) m r (early (sessionRefusal m) (clockRefusal (m .session .queue) instant) r e _ h) h
+  unfolding outputOf
+  media-early h = refused-is (media instant d) m r (sym (chain ∙ orElse-first r _ h)) h
 
   module _ (z : r ≡ 0) where
-    abbrev datagram : ℕ
-    datagram = datagramRefusal (m .session .queue .config .senders .pt) (m .session .queue .config .senders .ssrc .0) LARGEST-PAYLOAD d
-
     pub media-unread : (k : ℕ) → datagram ≡ k → (k ≡ 0 → ⊥) → did (media instant d) m ≡ record { answer = Calls.refused k; stored = m; output = [] }
-    unfolding refusal callRefusal mediaRefusal turnedBack outputOf parse
-    media-unread k hk h =
-        did-turned (media instant d) m k (past (sessionRefusal m) (clockRefusal (m .session .queue) instant) r e _ z ∙ rw hk (orElse-first k _ h)) h
-
-    reads : datagram ≡ 0 → refusal (media instant d) m ≡ packetRefusal instant (mediaEntry instant d (parse m .queue)) (mediaPlace (parse m) (mediaEntry instant d (parse m .queue) .number)) (parse m)
-    unfolding refusal callRefusal mediaRefusal packetRefusal parse
-    reads hk = past (sessionRefusal m) (clockRefusal (m .session .queue) instant) r e _ z ∙ orElse-second datagram _ hk
+    unfolding outputOf
+    media-unread k hk h = refused-is (media instant d) m k (sym (chain ∙ orElse-second r _ z ∙ ap (λ (j : ℕ). orElse j later) hk ∙ orElse-first k later h)) h
 
     read-as : datagram ≡ 0 → did (media instant d) m ≡ didPacket instant (mediaEntry instant d (parse m .queue)) m
     unfolding did accepted turnedBack answered taken outputOf outputAfter afterMedia placed placedAnswer didPlace didPacket
-    read-as hk = rw (reads hk)
+    read-as hk = rw (chain ∙ orElse-second r _ z ∙ orElse-second datagram later hk)
 
     same-entry : mediaEntry instant d (parse m .queue) ≡ entryOf instant (m .session .queue) (packetOf d) (payloadOf d)
     unfolding mediaEntry entryOf packetOf parse

@@ -14,7 +14,6 @@ use Rattle.words.proofs.Ordered.{and-left, and-right}
 use Rattle.durations.specs.Seconds.{largest}
 use Rattle.refusals.specs.Refusals.{SESSION}
 use Rattle.refusals.proofs.Laws.{passes}
-use Rattle.config.specs.declared.Settings.{Settings}
 use Rattle.config.proofs.Facts.{Usable}
 use Rattle.model.specs.declared.Session.{Session}
 use Rattle.model.specs.Lists.{every?}
@@ -80,9 +79,6 @@ checked m h =
 -- ---- settling
 
 module _ (m : Stored) (k : Checked m) where
-  abbrev set : Settings
-  set = m .session .queue .config .settings
-
   same-session : write (parse m) .session ≡ m .session
   unfolding write parse
   same-session =

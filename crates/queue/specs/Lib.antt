@@ -3,3 +3,4 @@ pub mod Answers
 pub mod Check
 pub mod Media
 pub mod Repair
+pub mod Steps

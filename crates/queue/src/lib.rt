@@ -10,8 +10,11 @@ use stats::OptRtxStats;
 
 pub mod check;
 pub mod open;
-pub mod reading;
 pub mod push;
+pub mod nack;
+pub mod poll;
+pub mod reading;
+pub mod rtx;
 
 // What the opening answers.
 pub enum Opening {

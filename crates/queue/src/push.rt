@@ -19,6 +19,8 @@ ghost use Rattle.entries.specs.Entries.{entry};
 ghost use Rattle.session.specs.Place as Spec;
 ghost use Rattle.queue.specs.Answers.{mediaAnswer, stored, Does};
 ghost use Rattle.queue.specs.Media.{Takes, Counts, Fit, entryOf, packetRefusal, placed, placedAnswer, didPacket};
+use super::MediaAnswer;
+use super::Pushed;
 use entries::Entry;
 use model::LastReceived;
 use model::Queue;
@@ -29,8 +31,6 @@ use rtp::opt::Opt;
 use rtp_packet::Parsed;
 use rtp_packet::RtpPacket;
 use session::push::Place;
-use super::MediaAnswer;
-use super::Pushed;
 
 // 001's MAX_GAP_SIZE.
 const MAX_GAP_SIZE: u64 = 1000;
@@ -141,8 +141,14 @@ fn packet_refusal(s: Session, e: Entry, place: Place) -> u64
     let settings = config.settings;
     let full = settings.max_entries <= s.entries;
     let waits = session::push::waits(place);
-    let counts =
-        session::push::counts(q.counters, e.timestamp, e.number, e.size as u64, waits, full);
+    let counts = session::push::counts(
+        q.counters,
+        e.timestamp,
+        e.number,
+        e.size as u64,
+        waits,
+        full,
+    );
     let gaps = session::push::gaps(settings, s.gaps, e.number, place);
     refusals::or_else(counts, gaps)
 }
@@ -240,14 +246,33 @@ fn place_packet(
     let config = q.config;
     let settings = config.settings;
     if settings.max_entries <= s.entries {
-        let session =
-            push_out_packet(s, entries, payloads, gaps, remembered, instant, e, payload, place);
+        let session = push_out_packet(
+            s,
+            entries,
+            payloads,
+            gaps,
+            remembered,
+            instant,
+            e,
+            payload,
+            place,
+        );
         return Pushed {
             answer: MediaAnswer::Queued,
             session,
         };
     }
-    let session = insert_packet(s, entries, payloads, gaps, remembered, instant, e, payload, place);
+    let session = insert_packet(
+        s,
+        entries,
+        payloads,
+        gaps,
+        remembered,
+        instant,
+        e,
+        payload,
+        place,
+    );
     Pushed {
         answer: MediaAnswer::Queued,
         session,
@@ -280,40 +305,65 @@ fn push_packet(
         };
     }
     super::check::settle(s, entries, payloads, gaps, remembered);
-    place_packet(s, entries, payloads, gaps, remembered, instant, e, payload, place)
+    place_packet(
+        s,
+        entries,
+        payloads,
+        gaps,
+        remembered,
+        instant,
+        e,
+        payload,
+        place,
+    )
 }
 
 // A media packet, in a datagram that came at this instant.
 pub fn push(
-    s: Session,
+    session: Session,
     entries: &mut [u64],
     payloads: &mut [u8],
     gaps: &mut [u64],
     remembered: &mut [u64],
-    instant: u64,
+    now: u64,
     datagram: &[u8],
 ) -> Pushed
-    ensures { λ r. ⌜ Does (media instant (now (datagram .entry))) (stored s (now (entries .entry)) (now (payloads .entry)) (now (gaps .entry)) (now (remembered .entry))) (mediaAnswer (r .answer)) (stored (r .session) (now (entries .exit)) (now (payloads .exit)) (now (gaps .exit)) (now (remembered .exit))) [] ⌝ }
+    ensures { λ r. ⌜ Does (media now (datagram .entry .now)) (stored session (entries .entry .now) (payloads .entry .now) (gaps .entry .now) (remembered .entry .now)) (mediaAnswer (r .answer)) (stored (r .session) (entries .exit .now) (payloads .exit .now) (gaps .exit .now) (remembered .exit .now)) [] ⌝ }
 {
-    let refusal =
-        super::check::session_and_clock(s, entries, payloads, gaps, remembered, instant);
+    let refusal = super::check::session_and_clock(
+        session,
+        entries,
+        payloads,
+        gaps,
+        remembered,
+        now,
+    );
     if refusal != 0 {
         return Pushed {
             answer: MediaAnswer::Refused(refusal),
-            session: s,
+            session,
         };
     }
-    let q = s.queue;
+    let q = session.queue;
     let config = q.config;
     let senders = config.senders;
     match rtp_packet::parse_media(datagram, senders.pt, senders.ssrc) {
         Parsed::Refused(number) => Pushed {
             answer: MediaAnswer::Refused(number),
-            session: s,
+            session,
         },
         Parsed::Packet(p) => {
             let payload = rtp_packet::payload(datagram, p);
-            push_packet(s, entries, payloads, gaps, remembered, instant, p, payload)
+            push_packet(
+                session,
+                entries,
+                payloads,
+                gaps,
+                remembered,
+                now,
+                p,
+                payload,
+            )
         }
     }
 }

@@ -2,24 +2,25 @@
 ghost use mathlib.Core.Path.{_≡_};
 ghost use mathlib.Core.Bool.{true, cond};
 ghost use mathlib.Core.List.{List, []};
-ghost use Prim.Native.Nat.{ℕ, _+_, _*_, _≤_, _<_};
+ghost use Prim.Native.Nat.{ℕ, _*_, _≤_, _<_};
 ghost use lib.ListN.{length};
 ghost use Rattle.words.specs.Order.{ascends};
 ghost use Rattle.durations.specs.Seconds.{largest};
-ghost use Rattle.refusals.specs.Refusals.{orElse};
 ghost use Rattle.rtp_packet.specs.Datagram.{LARGEST-PAYLOAD, LARGEST-REPAIR};
 ghost use Rattle.model.specs.Lists.{some?};
 ghost use Rattle.model.specs.Records as Records;
 ghost use Rattle.model.specs.Rules as Rules;
 ghost use Rattle.model.specs.Push as Push;
-ghost use Rattle.model.specs.Storage.{GAP-WORDS, gapsOf, entryPlaces, parse, write};
-ghost use Rattle.model.specs.Calls.{repair};
-ghost use Rattle.model.specs.Table.{sessionSound, sessionRefusal, clockRefusal, rtxRefusal, noMedia};
+ghost use Rattle.model.specs.Storage.{GAP-WORDS, gapsOf, parse, write};
+ghost use Rattle.model.specs.Calls.{repair, repaired};
+ghost use Rattle.model.specs.Table.{sessionSound};
 ghost use Rattle.entries.specs.Entries.{entry};
 ghost use Rattle.session.specs.Place as Spec;
 ghost use Rattle.queue.specs.Answers.{repairAnswer, stored, Does};
-ghost use Rattle.queue.specs.Media.{Counts};
-ghost use Rattle.queue.specs.Repair.{FitRepair, originalEntry, fateRefusal, didRepair};
+ghost use Rattle.queue.specs.Media.{Settled, Counts};
+ghost use Rattle.queue.specs.Repair.{FitRepair, originalEntry, entriesRefusal, fateRefusal, leftAfter, didRepair, didOriginal};
+use super::PushedRtx;
+use super::RepairAnswer;
 use entries::Entry;
 use model::Queue;
 use model::Session;
@@ -30,8 +31,6 @@ use rtp_packet::Original;
 use rtp_packet::Parsed;
 use rtp_packet::RtpPacket;
 use session::rtx::Fate;
-use super::PushedRtx;
-use super::RepairAnswer;
 
 // What becomes of a repair of the number x.
 fn repair_fate(q: Queue, gaps: &[u64], n: usize, x: u64) -> Fate
@@ -93,7 +92,18 @@ fn fate_refusal(s: Session, e: Entry, fate: Fate) -> u64
     refusals::or_else(counts, places)
 }
 
-// A repair that comes too late.
+// How many are left of n, where `taken` says whether one went.
+fn left_after(n: usize, taken: Opt) -> usize
+    requires { ⌜ ((i : ℕ) → taken ≡ Opt.Some i → 0 < n) ⌝ }
+    ensures { λ r. ⌜ r ≡ leftAfter n taken ⌝ }
+{
+    match taken {
+        Opt::None => n,
+        Opt::Some(_) => n - 1,
+    }
+}
+
+// A repair that comes too late: the number is remembered no longer, and yields a sample if it was.
 fn too_late(
     s: Session,
     entries: &[u64],
@@ -102,17 +112,225 @@ fn too_late(
     remembered: &mut [u64],
     instant: u64,
     e: Entry,
-    payload: &[u8],
 ) -> Session
-    requires { ⌜ FitRepair e (now payload) Fate.TooLate (stored s (now entries) (now payloads) (now gaps) (now remembered)) ⌝ }
-    ensures { λ r. ⌜ stored r (now (entries .entry)) (now (payloads .entry)) (now (gaps .entry)) (now (remembered .exit)) ≡ write (Push.afterFate instant (entry e (now (payload .entry))) Push.tooLate (parse (stored s (now (entries .entry)) (now (payloads .entry)) (now (gaps .entry)) (now (remembered .entry))))) ⌝ }
+    requires { ⌜ Settled (stored s (now entries) (now payloads) (now gaps) (now remembered)) ⌝ }
+    ensures { λ r. ⌜ ((payload : List ℕ) → stored r (now (entries .entry)) (now (payloads .entry)) (now (gaps .entry)) (now (remembered .exit)) ≡ write (Push.afterFate instant (entry e payload) Push.tooLate (parse (stored s (now (entries .entry)) (now (payloads .entry)) (now (gaps .entry)) (now (remembered .entry)))))) ⌝ }
 {
-    let forgotten = lost_nacked::forget(remembered, s.remembered, e.number);
-    let queue = session::rtx::too_late(s.queue, instant, forgotten.nacked);
+    let nacked = lost_nacked::forget(remembered, s.remembered, e.number);
+    let queue = session::rtx::too_late(s.queue, instant, nacked);
+    let left = left_after(s.remembered, nacked);
     Session {
         queue,
         entries: s.entries,
         gaps: s.gaps,
-        remembered: forgotten.left,
+        remembered: left,
+    }
+}
+
+// A repair that fills its gap.
+fn recover(
+    s: Session,
+    entries: &mut [u64],
+    payloads: &mut [u8],
+    gaps: &mut [u64],
+    remembered: &[u64],
+    instant: u64,
+    e: Entry,
+    payload: &[u8],
+) -> Session
+    requires { ⌜ FitRepair e (now payload) Fate.Recovered (stored s (now entries) (now payloads) (now gaps) (now remembered)) ⌝ }
+    ensures { λ r. ⌜ stored r (now (entries .exit)) (now (payloads .exit)) (now (gaps .exit)) (now (remembered .entry)) ≡ write (Push.afterFate instant (entry e (now (payload .entry))) Push.recovered (parse (stored s (now (entries .entry)) (now (payloads .entry)) (now (gaps .entry)) (now (remembered .entry))))) ⌝ }
+{
+    let n = s.entries;
+    let nacked = packet_gaps::remove(gaps, s.gaps, e.number);
+    entries::insert(entries, payloads, n, e, payload);
+    let queue = session::rtx::recovered(s.queue, instant, nacked, e.size as u64);
+    Session {
+        queue,
+        entries: n + 1,
+        gaps: s.gaps - 1,
+        remembered: s.remembered,
+    }
+}
+
+// A repair that is accepted.
+fn apply(
+    s: Session,
+    entries: &mut [u64],
+    payloads: &mut [u8],
+    gaps: &mut [u64],
+    remembered: &mut [u64],
+    instant: u64,
+    e: Entry,
+    payload: &[u8],
+    fate: Fate,
+) -> PushedRtx
+    requires { ⌜ FitRepair e (now payload) fate (stored s (now entries) (now payloads) (now gaps) (now remembered)) ⌝ }
+    ensures { λ r. ⌜ repairAnswer (r .answer) ≡ repaired (Spec.fate fate) ⌝ }
+    ensures { λ r. ⌜ stored (r .session) (now (entries .exit)) (now (payloads .exit)) (now (gaps .exit)) (now (remembered .exit)) ≡ write (Push.afterFate instant (entry e (now (payload .entry))) (Spec.fate fate) (parse (stored s (now (entries .entry)) (now (payloads .entry)) (now (gaps .entry)) (now (remembered .entry))))) ⌝ }
+{
+    match fate {
+        Fate::TooLate => {
+            let session = too_late(s, entries, payloads, gaps, remembered, instant, e);
+            PushedRtx {
+                answer: RepairAnswer::TooLate,
+                session,
+            }
+        }
+        Fate::Recovered => {
+            let session = recover(s, entries, payloads, gaps, remembered, instant, e, payload);
+            PushedRtx {
+                answer: RepairAnswer::Recovered,
+                session,
+            }
+        }
+        Fate::Redundant => {
+            let queue = session::rtx::redundant(s.queue, instant);
+            let session = Session {
+                queue,
+                entries: s.entries,
+                gaps: s.gaps,
+                remembered: s.remembered,
+            };
+            PushedRtx {
+                answer: RepairAnswer::Redundant,
+                session,
+            }
+        }
+    }
+}
+
+// A repair of this number that no check before 14 turns back.
+fn push_original(
+    s: Session,
+    entries: &mut [u64],
+    payloads: &mut [u8],
+    gaps: &mut [u64],
+    remembered: &mut [u64],
+    instant: u64,
+    p: RtpPacket,
+    number: SequenceNumber,
+    payload: &[u8],
+) -> PushedRtx
+    requires { ⌜ sessionSound (stored s (now entries) (now payloads) (now gaps) (now remembered)) ≡ true ⌝ }
+    requires { ⌜ length (now payload) ≤ LARGEST-PAYLOAD ⌝ }
+    ensures { λ r. ⌜ didRepair instant (originalEntry (s .queue) p (number .0) (now (payload .entry))) (stored s (now (entries .entry)) (now (payloads .entry)) (now (gaps .entry)) (now (remembered .entry))) ≡ record { answer = repairAnswer (r .answer); stored = stored (r .session) (now (entries .exit)) (now (payloads .exit)) (now (gaps .exit)) (now (remembered .exit)); output = [] } ⌝ }
+{
+    let q = s.queue;
+    let e = original_entry(q, p, number, payload.len());
+    let fate = repair_fate(q, gaps, s.gaps, e.number);
+    let refusal = fate_refusal(s, e, fate);
+    if refusal != 0 {
+        return PushedRtx {
+            answer: RepairAnswer::Refused(refusal),
+            session: s,
+        };
+    }
+    super::check::settle(s, entries, payloads, gaps, remembered);
+    apply(
+        s,
+        entries,
+        payloads,
+        gaps,
+        remembered,
+        instant,
+        e,
+        payload,
+        fate,
+    )
+}
+
+// A repair that no check before 10 turns back; its payload begins with the original number.
+fn push_repair(
+    s: Session,
+    entries: &mut [u64],
+    payloads: &mut [u8],
+    gaps: &mut [u64],
+    remembered: &mut [u64],
+    instant: u64,
+    p: RtpPacket,
+    payload: &[u8],
+) -> PushedRtx
+    requires { ⌜ sessionSound (stored s (now entries) (now payloads) (now gaps) (now remembered)) ≡ true ⌝ }
+    requires { ⌜ length (now payload) ≤ LARGEST-REPAIR ⌝ }
+    ensures { λ r. ⌜ didOriginal instant p (now (payload .entry)) (stored s (now (entries .entry)) (now (payloads .entry)) (now (gaps .entry)) (now (remembered .entry))) ≡ record { answer = repairAnswer (r .answer); stored = stored (r .session) (now (entries .exit)) (now (payloads .exit)) (now (gaps .exit)) (now (remembered .exit)); output = [] } ⌝ }
+{
+    let refusal = session::check::media_first(s.queue);
+    if refusal != 0 {
+        return PushedRtx {
+            answer: RepairAnswer::Refused(refusal),
+            session: s,
+        };
+    }
+    match rtp_packet::original_number(payload) {
+        Original::Refused(k) => PushedRtx {
+            answer: RepairAnswer::Refused(k),
+            session: s,
+        },
+        Original::Number(number) => {
+            let rest = rtp_packet::original_payload(payload);
+            push_original(
+                s,
+                entries,
+                payloads,
+                gaps,
+                remembered,
+                instant,
+                p,
+                number,
+                rest,
+            )
+        }
+    }
+}
+
+// A repair, in a datagram that came at this instant.
+pub fn push_rtx(
+    session: Session,
+    entries: &mut [u64],
+    payloads: &mut [u8],
+    gaps: &mut [u64],
+    remembered: &mut [u64],
+    now: u64,
+    datagram: &[u8],
+) -> PushedRtx
+    ensures { λ r. ⌜ Does (repair now (datagram .entry .now)) (stored session (entries .entry .now) (payloads .entry .now) (gaps .entry .now) (remembered .entry .now)) (repairAnswer (r .answer)) (stored (r .session) (entries .exit .now) (payloads .exit .now) (gaps .exit .now) (remembered .exit .now)) [] ⌝ }
+{
+    let damaged = super::check::session_and_clock(
+        session,
+        entries,
+        payloads,
+        gaps,
+        remembered,
+        now,
+    );
+    let refusal = refusals::or_else(damaged, session::check::rtx(session.queue));
+    if refusal != 0 {
+        return PushedRtx {
+            answer: RepairAnswer::Refused(refusal),
+            session,
+        };
+    }
+    let q = session.queue;
+    let config = q.config;
+    let senders = config.senders;
+    match rtp_packet::parse_repair(datagram, senders.rtx_pt, senders.rtx_ssrc) {
+        Parsed::Refused(k) => PushedRtx {
+            answer: RepairAnswer::Refused(k),
+            session,
+        },
+        Parsed::Packet(p) => {
+            let payload = rtp_packet::payload(datagram, p);
+            push_repair(
+                session,
+                entries,
+                payloads,
+                gaps,
+                remembered,
+                now,
+                p,
+                payload,
+            )
+        }
     }
 }

@@ -2,19 +2,19 @@
 use mathlib.Core.Path.{_≡_, refl, sym, subst}
 use mathlib.Core.Logic.{inl}
 use mathlib.Core.Bool.{Bool, false, _&&_}
-use Prim.Native.Nat.{ℕ, _+_, _%_, _≤_, _<_, _^_}
+use Prim.Native.Nat.{ℕ, _+_, _-_, _*_, _/_, _≤_, _<_, _^_}
 use native.Mathlib.Nat.{le-refl, lt-of-le-of-lt}
 use native.Mathlib.Omega.{arith}
-use lib.IntN.{negsuc}
+use lib.IntN.{pos, negsuc}
 use lib.Dec.{T, leb, leb→le, le→leb, lit≤, lit<}
 use lib.Ieee.{Float, fin, binary64, ofBits, add, mul, le, lt}
 use lib.Ieee.Fits.{and-l, and-r, and-i}
 use Rattle.float_laws.proofs.Upto.{Upto, whole-to, add-upto, mul-upto}
 use Rattle.rtp.specs.Numbers.{apart}
-use Rattle.durations.specs.Seconds.{largest, asSecsF64, zero64, limit}
+use Rattle.durations.specs.Seconds.{largest, giga, asSecsF64, zero64, limit}
 use Rattle.durations.proofs.Bound.{secs-upto, nanos-le, upto-in}
 use Rattle.rtx_state.specs.RoundTrip.{three-halves, fromFirstSample, rttUpdated, sampledRtt, nackResendDelay, rttInRange, optRttInRange}
-use Rattle.rtx_state.specs.Repair.{newRtxState, updateRtt, recordInTime, recordRedundant, recordTooLate, rtxInRange}
+use Rattle.rtx_state.specs.Repair.{rtxInRange}
 use Rattle.rtx_state.specs.declared.RtxState.{RtxState}
 use Rattle.rtx_state.specs.declared.RtxRtt.{RtxRtt}
 use Rattle.rtx_state.specs.declared.OptRtt.{OptRtt}
@@ -114,35 +114,3 @@ module _ (s : RtxState) where
       (and-i (a && b) c (and-i a b (k .rtt) (le→leb (s .«received_in_time») largest (k .in-time))) (le→leb (s .«received_too_late») largest (k .too-late)))
       (le→leb (s .«received_redundant») largest (k .redundant)))
       (le→leb (s .«bytes_received») largest (k .bytes))
-
-pub new-in : T (rtxInRange newRtxState)
-unfolding optRttInRange
-new-in = in-range newRtxState (record { rtt = tt; in-time = lit≤ tt; too-late = lit≤ tt; redundant = lit≤ tt; bytes = lit≤ tt })
-
-pub update-rtt-in : (s : RtxState) (r : ℕ) → T (rtxInRange s) → r ≤ largest → T (rtxInRange (updateRtt s r))
-unfolding updateRtt
-update-rtt-in s r h k =
-    let c = counted s h in
-    in-range (updateRtt s r) (record { rtt = sampled-in (s .rtt) r (c .rtt) k; in-time = c .in-time; too-late = c .too-late; redundant = c .redundant; bytes = c .bytes })
-
--- a counter that would not pass 2 ^ 52 - 1 does not wrap
-kept : (n d : ℕ) → n + d ≤ largest → (n + d) % 2 ^ 64 ≤ largest
-kept n d h = omega arith
-
-pub in-time-in : (s : RtxState) (size : ℕ) → T (rtxInRange s) → s .«received_in_time» + 1 ≤ largest → s .«bytes_received» + size ≤ largest → T (rtxInRange (recordInTime s size))
-unfolding recordInTime
-in-time-in s size h a b =
-    let c = counted s h in
-    in-range (recordInTime s size) (record { rtt = c .rtt; in-time = kept (s .«received_in_time») 1 a; too-late = c .too-late; redundant = c .redundant; bytes = kept (s .«bytes_received») size b })
-
-pub redundant-in : (s : RtxState) → T (rtxInRange s) → s .«received_redundant» + 1 ≤ largest → T (rtxInRange (recordRedundant s))
-unfolding recordRedundant
-redundant-in s h a =
-    let c = counted s h in
-    in-range (recordRedundant s) (record { rtt = c .rtt; in-time = c .in-time; too-late = c .too-late; redundant = kept (s .«received_redundant») 1 a; bytes = c .bytes })
-
-pub too-late-in : (s : RtxState) → T (rtxInRange s) → s .«received_too_late» + 1 ≤ largest → T (rtxInRange (recordTooLate s))
-unfolding recordTooLate
-too-late-in s h a =
-    let c = counted s h in
-    in-range (recordTooLate s) (record { rtt = c .rtt; in-time = c .in-time; too-late = kept (s .«received_too_late») 1 a; redundant = c .redundant; bytes = c .bytes })

@@ -89,6 +89,7 @@ impl OptRtt {
     }
 }
 
+
 pub struct RtxState {
     pub rtt: OptRtt,
     pub received_in_time: u64,
@@ -101,7 +102,6 @@ pub struct RtxState {
 impl RtxState {
     pub fn new() -> RtxState
         ensures { λ r. ⌜ r ≡ newRtxState ⌝ }
-        ensures { λ r. ⌜ T (rtxInRange r) ⌝ }
     {
         RtxState {
             rtt: OptRtt::None,
@@ -114,7 +114,6 @@ impl RtxState {
 
     pub fn update_rtt(self, sample: u64) -> RtxState
         ensures { λ r. ⌜ r ≡ updateRtt self sample ⌝ }
-        ensures { λ r. ⌜ (T (rtxInRange self) → sample ≤ largest → T (rtxInRange r)) ⌝ }
     {
         let rtt = self.rtt;
         RtxState {

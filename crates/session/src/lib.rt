@@ -18,6 +18,7 @@ use rtp::SequenceNumber;
 pub mod check;
 pub mod push;
 pub mod rtx;
+pub mod poll;
 
 // The number that `got` stands for; before the first media packet its own, in cycle 0.
 pub fn extended_number(q: Queue, got: SequenceNumber) -> ExtendedSequenceNumber

@@ -56,7 +56,13 @@ fn received_at(now: u64, timestamp: u64, number: u64) -> LastReceived
 }
 
 // Forward progress only.
-fn last_after(last: LastReceived, now: u64, timestamp: u64, number: u64, place: Place) -> LastReceived
+fn last_after(
+    last: LastReceived,
+    now: u64,
+    timestamp: u64,
+    number: u64,
+    place: Place,
+) -> LastReceived
     ensures { λ r. ⌜ r ≡ Push.lastAfter now timestamp number (Spec.place place) last ⌝ }
 {
     match place {

@@ -1,6 +1,6 @@
 // `push_rtx` (000) on the records that go by value: what is counted and sampled, and which check turns a repair back.
 ghost use mathlib.Core.Path.{_≡_};
-ghost use mathlib.Core.List.{List, [], _∷_};
+ghost use mathlib.Core.List.{_∷_};
 ghost use Prim.Native.Nat.{_+_, _-_, _≤_};
 ghost use Rattle.durations.specs.Seconds.{largest};
 ghost use Rattle.rtx_state.specs.Repair as Repair;

@@ -50,7 +50,7 @@ returns c = let s = c .before .before .before .before .before .before .before .b
       f,
       (
         c .before .before .before .before .before .before .remove .ensures ∙ words-dropped (s .args .words .now) (s .args .bytes .now) (s .args .n) k (s .pre .1 .0),
-        (c .before .before .remove2 .ensures ∙ bytes-dropped (s .args .words .now) (s .args .bytes .now) (s .args .n) k (s .pre .1 .0), c .before .before .before .before .before .before .before .before .before .before .copy-out .ensures ∙ ap (λ (l : List Entry). over (payloadOut l) (s .args .out .now)) (sym f)),
+        (c .before .before .remove2 .ensures ∙ bytes-dropped (s .args .words .now) (s .args .bytes .now) (s .args .n) k (s .pre .1 .0), (c .before .before .before .before .before .before .before .before .before .before .copy-out .ensures ∙ ap (λ (l : List Entry). over (payloadOut l) (s .args .out .now)) (sym f), front-fits (s .args .words .now) (s .args .bytes .now) (s .args .n) k (s .pre .1 .0) (r .result) (r .ensures))),
       ),
     )
 

@@ -4,7 +4,7 @@ use Rattle.session.specs.Place.{place}
 use Rattle.model.proofs.Laid.{length-gapsOf}
 use Rattle.model.specs.Rules.{gapsAfter}
 use native.Mathlib.Omega.{arith}
-use mathlib.Core.Path.{_≡_, refl, sym, ap, _∙_}
+use mathlib.Core.Path.{_≡_, refl, sym}
 use lib.ListN.{length}
 use Rattle.model.specs.Storage.{gapsOf}
 use borrow.Author.Needs.{needs}

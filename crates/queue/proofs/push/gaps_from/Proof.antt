@@ -5,7 +5,7 @@ use Rattle.words.specs.Blocks.{laid}
 use lib.ListN.{length, drop}
 use Prim.Native.Nat.{ℕ}
 use native.Mathlib.Omega.{arith}
-use mathlib.Core.Path.{_≡_, sym, ap, _∙_}
+use mathlib.Core.Path.{sym, ap, _∙_}
 use borrow.Author.Needs.{needs}
 use Rattle.queue.proofs.push.gaps_from.Statement.{statement}
 use Rattle.queue.proofs.push.gaps_from.Tie as tie
@@ -25,9 +25,10 @@ same-length c = search needs
 
 returns : tie.Need-returns
 returns c = let s = c .before .before .before .before .before .before .before in
-    let k = c .before .before .before .before .count-below .ensures in
-    (omega (arith, k, length-from (s .args .gaps .now) (s .args .n) (s .args .x) (s .pre .1)),
-      c .before .before .drain .ensures ∙ ap (laid gapWords (length (s .args .gaps .now))) (ap (λ (i : ℕ). drop i (gapsOf (s .args .gaps .now) (s .args .n))) k ∙ sym (from-is (s .args .gaps .now) (s .args .n) (s .args .x) (s .pre .1))))
+    let k = c .before .before .before .before .count-below .ensures in (
+      omega (arith, k, length-from (s .args .gaps .now) (s .args .n) (s .args .x) (s .pre .1)),
+      c .before .before .drain .ensures ∙ ap (laid gapWords (length (s .args .gaps .now))) (ap (λ (i : ℕ). drop i (gapsOf (s .args .gaps .now) (s .args .n))) k ∙ sym (from-is (s .args .gaps .now) (s .args .n) (s .args .x) (s .pre .1))),
+    )
 
 pub gaps-from-spec : {M : Type 1} → statement M
 gaps-from-spec =

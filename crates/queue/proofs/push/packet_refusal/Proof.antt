@@ -1,6 +1,5 @@
 -- `packet_refusal`: 14 and 12 as the definition joins them.
 use Rattle.queue.proofs.Media.{packet-refusal-is}
-use mathlib.Core.Path.{_≡_, sym, ap, _∙_}
 use borrow.Author.Needs.{needs}
 use Rattle.queue.proofs.push.packet_refusal.Statement.{statement}
 use Rattle.queue.proofs.push.packet_refusal.Tie as tie

@@ -2,7 +2,6 @@
 use Rattle.session.specs.Place.{place}
 use Rattle.model.specs.Rules.{placeOf}
 use borrow.Author.Tests.{lt-ltb, le-ltb, le-leb, lt-leb}
-use mathlib.Core.Path.{sym}
 use borrow.Author.Needs.{needs}
 use Rattle.queue.proofs.push.place_after.Statement.{statement}
 use Rattle.queue.proofs.push.place_after.Tie as tie

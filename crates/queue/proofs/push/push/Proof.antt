@@ -1,16 +1,16 @@
 -- `push` meets its contract: the checks before the datagram, the datagram's own, and then `push_packet`.
-use Rattle.queue.proofs.Turned.{none-sound, payload-is}
+use Rattle.queue.proofs.Settled.{passed-16}
+use Rattle.queue.proofs.Turned.{payload-is}
 use Rattle.queue.proofs.Pushing.{media-early, media-unread, media-read}
 use Rattle.queue.specs.Answers.{mediaAnswer, stored}
 use Rattle.model.proofs.SoundQueue.{clock-of}
-use Rattle.rtp_packet.proofs.Bounds.{payload-of-packet, payload-fits}
+use Rattle.rtp_packet.proofs.Bounds.{payload-fits}
 use Rattle.rtp_packet.proofs.Answers.{parsed-packet, parsed-refused}
-use Rattle.rtp_packet.specs.Header.{payloadOf}
 use Rattle.rtp_packet.specs.Datagram.{LARGEST-PAYLOAD}
 use Rattle.refusals.proofs.Laws.{orElse-none}
 use native.Mathlib.Omega.{arith}
 use lib.ListN.{length}
-use mathlib.Core.Path.{_≡_, sym, ap, _∙_}
+use mathlib.Core.Path.{sym, ap, _∙_}
 use borrow.Author.Needs.{needs}
 use Rattle.queue.proofs.push.push.Statement.{statement}
 use Rattle.queue.proofs.push.push.Tie as tie
@@ -33,7 +33,7 @@ same-length-4 c = search needs
 returns : tie.Need-returns
 unfolding mediaAnswer
 returns c = let s = c .before .before .before .before .before .before .before .before .before .before .before in
-    media-early (s .args .instant) (s .args .datagram .now) (stored (s .args .s) (s .args .entries .now) (s .args .payloads .now) (s .args .gaps .now) (s .args .remembered .now)) _ (c .before .session-and-clock .ensures) (c .if1 .taken)
+    media-early (s .args .now) (s .args .datagram .now) (stored (s .args .session) (s .args .entries .now) (s .args .payloads .now) (s .args .gaps .now) (s .args .remembered .now)) _ (c .before .session-and-clock .ensures) (c .if1 .taken)
 
 parse-media-requires : tie.Need-parse-media-requires
 parse-media-requires c κs = search needs
@@ -52,7 +52,7 @@ push-packet-requires c κs = let s = c .before .before .before .before .before .
     let z = orElse-none _ _ (sym (c .before .before .before .before .before .before .before .before .before .before .before .before .before .session-and-clock .ensures) ∙ c .before .before .before .before .before .before .before .before .before .before .before .before .if1 .left) in
     let x = parsed-packet _ _ LARGEST-PAYLOAD (s .args .datagram .now) _ (sym (c .before .before .before .before .before .before .before .before .parse-media .ensures) ∙ c .before .before .before .before .before .before .p .given .1) in
     let l = ap length (payload-is (s .args .datagram .now) _ _ (c .before .before .before .before .payload .ensures) (x .1)) in
-    (none-sound (stored (s .args .s) (s .args .entries .now) (s .args .payloads .now) (s .args .gaps .now) (s .args .remembered .now)) (z .0), (clock-of (s .args .s .queue) (s .args .instant) (z .1) .1, omega (arith, l, payload-fits _ _ LARGEST-PAYLOAD (s .args .datagram .now) (x .0))))
+    (passed-16 (stored (s .args .session) (s .args .entries .now) (s .args .payloads .now) (s .args .gaps .now) (s .args .remembered .now)) (z .0), (clock-of (s .args .session .queue) (s .args .now) (z .1) .1, omega (arith, l, payload-fits _ _ LARGEST-PAYLOAD (s .args .datagram .now) (x .0))))
 
 same-length-5 : tie.Need-same-length-5
 same-length-5 c = search needs
@@ -70,7 +70,7 @@ returns-2 : tie.Need-returns-2
 unfolding mediaAnswer
 returns-2 c = let s = c .before .before .before .before .before .before .before .before .before .before .before .before .before .before .before .before .before .before in
     let x = parsed-refused _ _ LARGEST-PAYLOAD _ (s .args .datagram .now) (sym (c .before .before .before .parse-media .ensures) ∙ c .before .number .given .1) in
-    media-unread (s .args .instant) (s .args .datagram .now) (stored (s .args .s) (s .args .entries .now) (s .args .payloads .now) (s .args .gaps .now) (s .args .remembered .now)) _ (c .before .before .before .before .before .before .before .before .session-and-clock .ensures) (c .before .before .before .before .before .before .before .if1 .left) _ (x .0) (x .1)
+    media-unread (s .args .now) (s .args .datagram .now) (stored (s .args .session) (s .args .entries .now) (s .args .payloads .now) (s .args .gaps .now) (s .args .remembered .now)) _ (c .before .before .before .before .before .before .before .before .session-and-clock .ensures) (c .before .before .before .before .before .before .before .if1 .left) _ (x .0) (x .1)
 
 same-length-9 : tie.Need-same-length-9
 same-length-9 c = search needs
@@ -87,7 +87,7 @@ same-length-12 c = search needs
 returns-3 : tie.Need-returns-3
 returns-3 c = let s = c .before .before .before .before .before .before .before .before .before .before .before .before .before .before .before .before .before .before .before .before .before .before .before .before .before .before .before .before .before .before .before .before in
     let x = parsed-packet _ _ LARGEST-PAYLOAD (s .args .datagram .now) _ (sym (c .before .before .before .before .before .before .before .before .before .before .before .before .before .before .before .before .before .parse-media .ensures) ∙ c .before .before .before .before .before .before .before .before .before .before .before .before .before .before .before .p .given .1) in
-    media-read (s .args .instant) (s .args .datagram .now) (stored (s .args .s) (s .args .entries .now) (s .args .payloads .now) (s .args .gaps .now) (s .args .remembered .now)) _ (c .before .before .before .before .before .before .before .before .before .before .before .before .before .before .before .before .before .before .before .before .before .before .session-and-clock .ensures) (c .before .before .before .before .before .before .before .before .before .before .before .before .before .before .before .before .before .before .before .before .before .if1 .left) _ _ _ (x .0) (x .1) (payload-is (s .args .datagram .now) _ _ (c .before .before .before .before .before .before .before .before .before .before .before .before .before .payload .ensures) (x .1)) (c .before .before .before .before .before .before .before .before .push-packet .ensures)
+    media-read (s .args .now) (s .args .datagram .now) (stored (s .args .session) (s .args .entries .now) (s .args .payloads .now) (s .args .gaps .now) (s .args .remembered .now)) _ (c .before .before .before .before .before .before .before .before .before .before .before .before .before .before .before .before .before .before .before .before .before .before .session-and-clock .ensures) (c .before .before .before .before .before .before .before .before .before .before .before .before .before .before .before .before .before .before .before .before .before .if1 .left) _ _ _ (x .0) (x .1) (payload-is (s .args .datagram .now) _ _ (c .before .before .before .before .before .before .before .before .before .before .before .before .before .payload .ensures) (x .1)) (c .before .before .before .before .before .before .before .before .push-packet .ensures)
 
 pub push-spec : {M : Type 1} → statement M
 push-spec =

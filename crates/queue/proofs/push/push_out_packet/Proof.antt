@@ -2,7 +2,6 @@
 use Rattle.queue.proofs.Media.{ready-for, counters-fit, takes, opened-in, opened-ascend, still-fits, pushed-out-packet}
 use Rattle.queue.specs.Answers.{stored}
 use mathlib.Core.List.{[]}
-use native.Mathlib.Omega.{arith}
 use borrow.Author.Needs.{needs}
 use Rattle.queue.proofs.push.push_out_packet.Statement.{statement}
 use Rattle.queue.proofs.push.push_out_packet.Tie as tie

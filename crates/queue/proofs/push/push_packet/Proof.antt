@@ -2,11 +2,10 @@
 use Rattle.queue.proofs.Pushing.{counts-are, incoming-of, fit-of, place-refused, place-accepted}
 use Rattle.queue.proofs.Settled.{checked}
 use Rattle.queue.specs.Answers.{mediaAnswer, stored}
-use Rattle.entries.specs.Entries.{entry}
 use Rattle.model.specs.Storage.{parse}
 use Rattle.model.specs.Push.{mediaPlace}
 use native.Mathlib.Omega.{arith}
-use mathlib.Core.Path.{_≡_, sym, ap, _∙_}
+use mathlib.Core.Path.{sym, _∙_}
 use borrow.Author.Needs.{needs}
 use Rattle.queue.proofs.push.push_packet.Statement.{statement}
 use Rattle.queue.proofs.push.push_packet.Tie as tie
@@ -18,7 +17,7 @@ media-place-requires : tie.Need-media-place-requires
 unfolding parse
 media-place-requires c κs = let s = c .before .before .before .before .before .before .before .before in
     let k = checked (stored (s .args .s) (s .args .entries .now) (s .args .payloads .now) (s .args .gaps .now) (s .args .remembered .now)) (s .pre .0) in
-    (k .room .gaps, k .gaps-ascend)
+    (k .room .gaps, k .lists .gaps-ascend)
 
 packet-refusal-requires : tie.Need-packet-refusal-requires
 unfolding parse

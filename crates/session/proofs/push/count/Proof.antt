@@ -1,7 +1,6 @@
 -- `count` meets its contract: one value.
 use mathlib.Core.Path.{_∙_}
 use Rattle.session.proofs.Counts.{count-none, count-here, count-past}
-use borrow.Author.Needs.{needs}
 use Rattle.session.proofs.push.count.Statement.{statement}
 use Rattle.session.proofs.push.count.Tie as tie
 

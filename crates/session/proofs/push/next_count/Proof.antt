@@ -3,7 +3,6 @@ use Prim.Native.Nat.{_+_}
 use mathlib.Core.Path.{_∙_}
 use Rattle.session.proofs.Counts.{count-none, count-here, count-past}
 use native.Mathlib.Omega.{arith}
-use borrow.Author.Needs.{needs}
 use Rattle.session.proofs.push.next_count.Statement.{statement}
 use Rattle.session.proofs.push.next_count.Tie as tie
 

@@ -1,5 +1,4 @@
 -- `raised` meets its contract: the values in their order.
-use mathlib.Core.List.{[]}
 use Prim.Native.Nat.{_+_}
 use Rattle.session.proofs.Counts.{count-none, count-here, count-past}
 use borrow.Author.Tests.{not-true, not-false}

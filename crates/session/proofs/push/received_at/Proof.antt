@@ -1,6 +1,5 @@
 -- `received_at`: the definition's record.
 use Rattle.model.specs.Push.{lastAfter}
-use borrow.Author.Needs.{needs}
 use Rattle.session.proofs.push.received_at.Statement.{statement}
 use Rattle.session.proofs.push.received_at.Tie as tie
 

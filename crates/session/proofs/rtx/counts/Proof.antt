@@ -1,6 +1,6 @@
 -- `counts` meets its contract: the values in their order.
-use Rattle.session.proofs.Counts.{count-none, count-here, count-past}
-use mathlib.Core.Path.{_≡_, _∙_}
+use Rattle.session.proofs.Counts.{count-here, count-past}
+use mathlib.Core.Path.{_∙_}
 use borrow.Author.Needs.{needs}
 use Rattle.session.proofs.rtx.counts.Statement.{statement}
 use Rattle.session.proofs.rtx.counts.Tie as tie

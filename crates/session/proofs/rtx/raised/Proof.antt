@@ -1,9 +1,9 @@
 -- `raised`, arm by arm.
 use Prim.Native.Nat.{_+_}
-use Rattle.session.proofs.Counts.{count-none, count-here, count-past}
+use Rattle.session.proofs.Counts.{count-here, count-past}
 use Rattle.session.specs.Place.{fate, raisedBy}
 use native.Mathlib.Omega.{arith}
-use mathlib.Core.Path.{_≡_, _∙_}
+use mathlib.Core.Path.{_∙_}
 use borrow.Author.Needs.{needs}
 use Rattle.session.proofs.rtx.raised.Statement.{statement}
 use Rattle.session.proofs.rtx.raised.Tie as tie

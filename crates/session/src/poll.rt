@@ -1,0 +1,116 @@
+// What `poll` and `poll_nack` make of the records that go by value (01, "Hand-out" and "Gap").
+ghost use mathlib.Core.Path.{_≡_};
+ghost use mathlib.Core.List.{[], _∷_};
+ghost use Prim.Native.Nat.{_+_, _≤_, _<_, _^_};
+ghost use lib.Dec.{T};
+ghost use Rattle.durations.specs.Seconds.{largest};
+ghost use Rattle.config.specs.Valid.{settingsValid};
+ghost use Rattle.config.specs.declared.RtpInboundQueueMode.the-variants.{SortedQueue};
+ghost use Rattle.model.specs.Records as Records;
+ghost use Rattle.model.specs.Poll as Poll;
+ghost use Rattle.model.specs.Valid as Valid;
+ghost use Rattle.model.specs.Table as Table;
+use config::RtpInboundQueueMode;
+use durations::LARGEST;
+use model::LastReceived;
+use model::LastReturned;
+use model::Queue;
+use rtp::ExtendedSequenceNumber;
+use rtp::opt::Opt;
+
+// 14, for the numbers lost.
+pub fn lost_refusal(q: Queue, lost: u64) -> u64
+    requires { ⌜ q .counters .lost + lost < 2 ^ 64 ⌝ }
+    ensures { λ r. ⌜ r ≡ Table.countRefusal ((q .counters .lost + lost) ∷ []) ⌝ }
+{
+    let counters = q.counters;
+    if LARGEST < counters.lost + lost {
+        return refusals::COUNT;
+    }
+    0
+}
+
+// The clock, and the numbers given up first.
+pub fn drained(q: Queue, now: u64, lost: u64) -> Queue
+    requires { ⌜ q .counters .lost + lost < 2 ^ 64 ⌝ }
+    ensures { λ r. ⌜ r ≡ Poll.lose lost (Records.withClock q now) ⌝ }
+{
+    let mut next = q;
+    next.clock = now;
+    super::lose(next, lost)
+}
+
+// The entry of the number goes out, and the gaps below it are lost.
+pub fn handed_out(q: Queue, lost: u64, number: u64) -> Queue
+    requires { ⌜ q .counters .lost + lost < 2 ^ 64 ⌝ }
+    ensures { λ r. ⌜ r ≡ Records.withReturned (Poll.lose lost q) number ⌝ }
+{
+    let config = q.config;
+    let last = q.last;
+    let rtx = q.rtx;
+    let jitter = q.jitter;
+    let next = super::lose(q, lost);
+    let counters = next.counters;
+    let loss = next.loss;
+    let handed = ExtendedSequenceNumber(number);
+    let returned = LastReturned::Some(handed);
+    Queue {
+        config,
+        clock: q.clock,
+        last,
+        returned,
+        rtx,
+        counters,
+        jitter,
+        loss,
+    }
+}
+
+fn reaches(timestamp: u64, limit: Opt) -> bool
+    ensures { λ r. ⌜ r ≡ Poll.reaches timestamp limit ⌝ }
+{
+    match limit {
+        Opt::None => false,
+        Opt::Some(max) => timestamp <= max,
+    }
+}
+
+fn sorted_ready(q: Queue, now: u64, timestamp: u64) -> bool
+    requires { ⌜ (q .clock ≤ now) × (now ≤ largest) ⌝ }
+    requires { ⌜ T (settingsValid (q .config .settings)) ⌝ }
+    requires { ⌜ T (Valid.lastSound (q .clock) (q .last)) ⌝ }
+    ensures { λ r. ⌜ ((e : Records.Entry) → e .timestamp ≡ timestamp → r ≡ Poll.ready q SortedQueue (q .last) now e) ⌝ }
+{
+    let last = q.last;
+    let config = q.config;
+    let settings = config.settings;
+    match last {
+        LastReceived::None => false,
+        LastReceived::Some(r) => {
+            let limit = handout::max_timestamp(
+                r.instant,
+                r.timestamp,
+                settings.clock_rate,
+                settings.target_delay(),
+                now,
+            );
+            reaches(timestamp, limit)
+        }
+    }
+}
+
+// Whether an entry of the timestamp goes out where it is the first.
+pub fn ready(q: Queue, now: u64, timestamp: u64) -> bool
+    requires { ⌜ (q .clock ≤ now) × (now ≤ largest) ⌝ }
+    requires { ⌜ T (settingsValid (q .config .settings)) ⌝ }
+    requires { ⌜ T (Valid.lastSound (q .clock) (q .last)) ⌝ }
+    ensures { λ r. ⌜ ((e : Records.Entry) → e .timestamp ≡ timestamp → r ≡ Poll.ready q (q .config .settings .mode) (q .last) now e) ⌝ }
+{
+    let config = q.config;
+    let settings = config.settings;
+    let mode = settings.mode;
+    match mode {
+        RtpInboundQueueMode::Passthrough => true,
+        RtpInboundQueueMode::SortedQueue => sorted_ready(q, now, timestamp),
+    }
+}
