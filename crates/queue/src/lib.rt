@@ -9,10 +9,10 @@ use rtp::opt::Opt;
 use stats::OptRtxStats;
 
 pub mod check;
-pub mod open;
-pub mod push;
 pub mod nack;
+pub mod open;
 pub mod poll;
+pub mod push;
 pub mod reading;
 pub mod rtx;
 

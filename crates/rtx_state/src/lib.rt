@@ -89,7 +89,6 @@ impl OptRtt {
     }
 }
 
-
 pub struct RtxState {
     pub rtt: OptRtt,
     pub received_in_time: u64,

@@ -16,9 +16,9 @@ use rtp::RtpTimestamp;
 use rtp::SequenceNumber;
 
 pub mod check;
+pub mod poll;
 pub mod push;
 pub mod rtx;
-pub mod poll;
 
 // The number that `got` stands for; before the first media packet its own, in cycle 0.
 pub fn extended_number(q: Queue, got: SequenceNumber) -> ExtendedSequenceNumber
