@@ -213,6 +213,50 @@ fn push_out_packet(
     }
 }
 
+// Queues a packet that is accepted.
+fn queue_packet(
+    s: Session,
+    entries: &mut [u64],
+    payloads: &mut [u8],
+    gaps: &mut [u64],
+    remembered: &[u64],
+    instant: u64,
+    e: Entry,
+    payload: &[u8],
+    place: Place,
+) -> Session
+    requires { ⌜ Fit instant e (now payload) place (stored s (now entries) (now payloads) (now gaps) (now remembered)) ⌝ }
+    requires { ⌜ Rules.waits (Spec.place place) ≡ true ⌝ }
+    ensures { λ r. ⌜ stored r (now (entries .exit)) (now (payloads .exit)) (now (gaps .exit)) (now (remembered .entry)) ≡ write (placed instant (entry e (now (payload .entry))) (Spec.place place) (parse (stored s (now (entries .entry)) (now (payloads .entry)) (now (gaps .entry)) (now (remembered .entry))))) ⌝ }
+{
+    let config = s.queue.config;
+    let settings = config.settings;
+    if settings.max_entries <= s.entries {
+        return push_out_packet(
+            s,
+            entries,
+            payloads,
+            gaps,
+            remembered,
+            instant,
+            e,
+            payload,
+            place,
+        );
+    }
+    insert_packet(
+        s,
+        entries,
+        payloads,
+        gaps,
+        remembered,
+        instant,
+        e,
+        payload,
+        place,
+    )
+}
+
 // Drops or queues a packet that is accepted.
 fn place_packet(
     s: Session,
@@ -229,40 +273,16 @@ fn place_packet(
     ensures { λ r. ⌜ mediaAnswer (r .answer) ≡ placedAnswer (Spec.place place) ⌝ }
     ensures { λ r. ⌜ stored (r .session) (now (entries .exit)) (now (payloads .exit)) (now (gaps .exit)) (now (remembered .entry)) ≡ write (placed instant (entry e (now (payload .entry))) (Spec.place place) (parse (stored s (now (entries .entry)) (now (payloads .entry)) (now (gaps .entry)) (now (remembered .entry))))) ⌝ }
 {
-    let q = s.queue;
+    let mut session = s;
     if !session::push::waits(place) {
-        let queue = session::push::dropped(q, instant, ExtendedRtpTimestamp(e.timestamp));
-        let session = Session {
-            queue,
-            entries: s.entries,
-            gaps: s.gaps,
-            remembered: s.remembered,
-        };
+        let queue = session::push::dropped(s.queue, instant, ExtendedRtpTimestamp(e.timestamp));
+        session.queue = queue;
         return Pushed {
             answer: MediaAnswer::Dropped,
             session,
         };
     }
-    let config = q.config;
-    let settings = config.settings;
-    if settings.max_entries <= s.entries {
-        let session = push_out_packet(
-            s,
-            entries,
-            payloads,
-            gaps,
-            remembered,
-            instant,
-            e,
-            payload,
-            place,
-        );
-        return Pushed {
-            answer: MediaAnswer::Queued,
-            session,
-        };
-    }
-    let session = insert_packet(
+    session = queue_packet(
         s,
         entries,
         payloads,

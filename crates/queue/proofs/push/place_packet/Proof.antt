@@ -1,12 +1,12 @@
--- `place_packet` meets its contract: dropped, at the depth, or below it.
-use Rattle.queue.proofs.Media.{dropped-fits, dropped-packet}
-use Rattle.queue.specs.Media.{placedAnswer}
-use Rattle.queue.specs.Answers.{mediaAnswer, stored}
-use Rattle.session.specs.Place.{place}
-use Rattle.model.specs.Rules.{waits}
-use borrow.Author.Tests.{not-true, not-false}
-use mathlib.Core.Bool.{true, false}
+-- `place_packet` meets its contract: dropped or queued.
 use mathlib.Core.Path.{_≡_, sym, _∙_}
+use mathlib.Core.Bool.{true, false}
+use borrow.Author.Tests.{not-true, not-false}
+use Rattle.model.specs.Rules.{waits}
+use Rattle.session.specs.Place.{place}
+use Rattle.queue.specs.Answers.{mediaAnswer, stored}
+use Rattle.queue.specs.Media.{placedAnswer}
+use Rattle.queue.proofs.Media.{dropped-fits, dropped-packet}
 use borrow.Author.Needs.{needs}
 use Rattle.queue.proofs.push.place_packet.Statement.{statement}
 use Rattle.queue.proofs.push.place_packet.Tie as tie
@@ -15,17 +15,16 @@ waits-requires : tie.Need-waits-requires
 waits-requires c κs = search needs
 
 dropped-requires : tie.Need-dropped-requires
-dropped-requires c κs = let s = c .before .before .before .before .before .before .before .before in dropped-fits _ _ _ _ (stored (s .args .s) (s .args .entries .now) (s .args .payloads .now) (s .args .gaps .now) (s .args .remembered .now)) (s .pre) (sym (c .before .waits .ensures) ∙ not-true _ (c .if1 .taken))
+dropped-requires c κs = let s = c .before .before .before .before .before .before .before in dropped-fits _ _ _ _ (stored (s .args .s) (s .args .entries .now) (s .args .payloads .now) (s .args .gaps .now) (s .args .remembered .now)) (s .pre) (sym (c .before .waits .ensures) ∙ not-true _ (c .if1 .taken))
 
 returns : tie.Need-returns
 unfolding mediaAnswer placedAnswer
-returns c = let s = c .before .before .before .before .before .before .before .before .before in
+returns c = let s = c .before .before .before .before .before .before .before .before in
     let w : waits (place (s .args .place)) ≡ false = sym (c .before .before .waits .ensures) ∙ not-true _ (c .before .if1 .taken) in
     (rw w, dropped-packet _ _ _ _ (stored (s .args .s) (s .args .entries .now) (s .args .payloads .now) (s .args .gaps .now) (s .args .remembered .now)) (s .pre) w _ (c .dropped .ensures))
 
-push-out-packet-requires : tie.Need-push-out-packet-requires
-push-out-packet-requires c κs = let s = c .before .before .before .before .before .before .before .before .before .before .before .before .before .before .before .before in
-    (s .pre, (sym (c .before .before .before .before .before .before .before .before .before .waits .ensures) ∙ not-false _ (c .before .before .before .before .before .before .before .before .if1 .left), c .before .before .before .if2 .taken))
+queue-packet-requires : tie.Need-queue-packet-requires
+queue-packet-requires c κs = let s = c .before .before .before .before .before .before .before .before .before .before in (s .pre, sym (c .before .before .before .before .waits .ensures) ∙ not-false _ (c .before .before .before .if1 .left))
 
 same-length : tie.Need-same-length
 same-length c = search needs
@@ -38,28 +37,9 @@ same-length-3 c = search needs
 
 returns-2 : tie.Need-returns-2
 unfolding mediaAnswer placedAnswer
-returns-2 c = let s = c .before .before .before .before .before .before .before .before .before .before .before .before .before .before .before .before .before .before .before .before .before .before .before in
-    let w : waits (place (s .args .place)) ≡ true = sym (c .before .before .before .before .before .before .before .before .before .before .before .before .before .before .before .before .waits .ensures) ∙ not-false _ (c .before .before .before .before .before .before .before .before .before .before .before .before .before .before .before .if1 .left) in
-    (rw w, c .before .before .before .before .before .before .push-out-packet .ensures)
-
-insert-packet-requires : tie.Need-insert-packet-requires
-insert-packet-requires c κs = let s = c .before .before .before .before .before .before .before .before .before .before .before .before .before .before .before .before in
-    (s .pre, (sym (c .before .before .before .before .before .before .before .before .before .waits .ensures) ∙ not-false _ (c .before .before .before .before .before .before .before .before .if1 .left), c .before .before .before .if2 .left))
-
-same-length-4 : tie.Need-same-length-4
-same-length-4 c = search needs
-
-same-length-5 : tie.Need-same-length-5
-same-length-5 c = search needs
-
-same-length-6 : tie.Need-same-length-6
-same-length-6 c = search needs
-
-returns-3 : tie.Need-returns-3
-unfolding mediaAnswer placedAnswer
-returns-3 c = let s = c .before .before .before .before .before .before .before .before .before .before .before .before .before .before .before .before .before .before .before .before .before .before .before in
-    let w : waits (place (s .args .place)) ≡ true = sym (c .before .before .before .before .before .before .before .before .before .before .before .before .before .before .before .before .waits .ensures) ∙ not-false _ (c .before .before .before .before .before .before .before .before .before .before .before .before .before .before .before .if1 .left) in
-    (rw w, c .before .before .before .before .before .before .insert-packet .ensures)
+returns-2 c = let s = c .before .before .before .before .before .before .before .before .before .before .before .before .before .before .before .before .before in
+    let w : waits (place (s .args .place)) ≡ true = sym (c .before .before .before .before .before .before .before .before .before .before .before .waits .ensures) ∙ not-false _ (c .before .before .before .before .before .before .before .before .before .before .if1 .left) in
+    (rw w, c .before .before .before .before .before .before .queue-packet .ensures)
 
 pub place-packet-spec : {M : Type 1} → statement M
 place-packet-spec =
@@ -68,13 +48,8 @@ place-packet-spec =
     waits-requires
     dropped-requires
     returns
-    push-out-packet-requires
+    queue-packet-requires
     same-length
     same-length-2
     same-length-3
-    returns-2
-    insert-packet-requires
-    same-length-4
-    same-length-5
-    same-length-6
-    returns-3)
+    returns-2)
