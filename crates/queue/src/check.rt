@@ -13,7 +13,7 @@ use config::Settings;
 use model::Session;
 
 // Whether the slices have the lengths that the settings ask for.
-pub fn lengths_fit(
+pub(crate) fn lengths_fit(
     set: Settings,
     entries: &[u64],
     payloads: &[u8],
@@ -116,7 +116,7 @@ pub fn session_and_clock(
 }
 
 // Zeros in every place of the storage that the session does not use.
-pub fn settle(
+pub(crate) fn settle(
     s: Session,
     entries: &mut [u64],
     payloads: &mut [u8],

@@ -38,7 +38,7 @@ use rtp::ExtendedRtpTimestamp;
 use rtp::ExtendedSequenceNumber;
 
 // How many gaps at the front are given up.
-pub fn given_up(q: Queue, gaps: &[u64], n: usize) -> usize
+pub(crate) fn given_up(q: Queue, gaps: &[u64], n: usize) -> usize
     requires { ⌜ GAP-WORDS * n ≤ length (now gaps) ⌝ }
     ensures { λ r. ⌜ r ≡ length (givenUp (q .config .settings) (q .config .settings .mode) (gapsOf (now (gaps .entry)) n)) ⌝ }
 {
@@ -66,7 +66,7 @@ fn take_front(gaps: &mut [u64], n: usize, k: usize)
 }
 
 // The clock, then `drain_lost`.
-pub fn drain(s: Session, gaps: &mut [u64], instant: u64) -> Session
+pub(crate) fn drain(s: Session, gaps: &mut [u64], instant: u64) -> Session
     requires { ⌜ GapsIn (now gaps) (s .gaps) ⌝ }
     requires { ⌜ s .queue .counters .lost + s .gaps < 2 ^ 64 ⌝ }
     ensures { λ r. ⌜ r ≡ drainedSession instant s (gapsOf (now (gaps .entry)) (s .gaps)) ⌝ }

@@ -45,7 +45,7 @@ fn estimate_of(q: Queue) -> OptRtt
 }
 
 // After how long a gap is NACKed, first and again.
-pub fn nack_timings(q: Queue) -> NackTimings
+pub(crate) fn nack_timings(q: Queue) -> NackTimings
     requires { ⌜ T (settingsValid (q .config .settings)) × T (optRttInRange (q .rtx .rtt)) ⌝ }
     ensures { λ r. ⌜ r ≡ nackTimings (q .config .settings) (Poll.estimateOf q) ⌝ }
     ensures { λ r. ⌜ Small r ⌝ }

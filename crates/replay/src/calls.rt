@@ -1,0 +1,293 @@
+// A line's call, made on the session.
+ghost use Prim.Native.Nat.{_≤_};
+use crate::answers;
+use crate::lists;
+use crate::opening;
+use crate::opening::OptConfig;
+use crate::output;
+use model::Session;
+use queue::Opening;
+use trace::Call;
+use trace::Datagram;
+use trace::OpenFields;
+
+pub enum Held {
+    None,
+    Some(Session),
+}
+
+// The session after a line, and how many bytes of the output are filled.
+pub struct Step {
+    pub held: Held,
+    pub at: usize,
+}
+
+// How many of `have` places are lent to a session that wants `each` for every one of n.
+fn lent(n: usize, each: usize, have: usize) -> usize
+    ensures { λ r. ⌜ r ≤ have ⌝ }
+{
+    if each == 0 {
+        return 0;
+    }
+    if have / each < n {
+        return have;
+    }
+    n * each
+}
+
+fn open(
+    before: Held,
+    f: OpenFields,
+    entries: &mut [u64],
+    payloads: &mut [u8],
+    gaps: &mut [u64],
+    remembered: &mut [u64],
+    out: &mut [u8],
+    at: usize,
+) -> Step {
+    let OptConfig::Some(config) = opening::config_of(f) else {
+        let to = answers::refused(out, at, refusals::SETTINGS);
+        return Step {
+            held: before,
+            at: to,
+        };
+    };
+    let d = f.max_entries as usize;
+    let g = f.max_gaps as usize;
+    let words = lent(d, 8, entries.len());
+    let octets = lent(d, 640, payloads.len());
+    let places = lent(g, 4, gaps.len());
+    match queue::open::open(
+        config,
+        &mut entries[0..words],
+        &mut payloads[0..octets],
+        &mut gaps[0..places],
+        remembered,
+    ) {
+        Opening::Session(session) => Step {
+            held: Held::Some(session),
+            at: output::line(out, at, b"opened"),
+        },
+        Opening::Refused(number) => Step {
+            held: before,
+            at: answers::refused(out, at, number),
+        },
+    }
+}
+
+fn media(
+    s: Session,
+    entries: &mut [u64],
+    payloads: &mut [u8],
+    gaps: &mut [u64],
+    remembered: &mut [u64],
+    d: Datagram,
+    bytes: &[u8],
+    out: &mut [u8],
+    at: usize,
+) -> Step {
+    let size = lent(d.size, 1, bytes.len());
+    let datagram = &bytes[0..size];
+    let done = queue::push::push(s, entries, payloads, gaps, remembered, d.now, datagram);
+    let answer = done.answer;
+    let session = done.session;
+    let to = answers::media(out, at, answer);
+    Step {
+        held: Held::Some(session),
+        at: to,
+    }
+}
+
+fn repair(
+    s: Session,
+    entries: &mut [u64],
+    payloads: &mut [u8],
+    gaps: &mut [u64],
+    remembered: &mut [u64],
+    d: Datagram,
+    bytes: &[u8],
+    out: &mut [u8],
+    at: usize,
+) -> Step {
+    let size = lent(d.size, 1, bytes.len());
+    let datagram = &bytes[0..size];
+    let done = queue::rtx::push_rtx(s, entries, payloads, gaps, remembered, d.now, datagram);
+    let answer = done.answer;
+    let session = done.session;
+    let to = answers::repair(out, at, answer);
+    Step {
+        held: Held::Some(session),
+        at: to,
+    }
+}
+
+fn poll(
+    s: Session,
+    entries: &mut [u64],
+    payloads: &mut [u8],
+    gaps: &mut [u64],
+    remembered: &mut [u64],
+    now: u64,
+    out: &mut [u8],
+    at: usize,
+) -> Step {
+    let mut payload = [0u8; 320];
+    let done = queue::poll::poll(s, entries, payloads, gaps, remembered, now, &mut payload);
+    let answer = done.answer;
+    let session = done.session;
+    let to = answers::poll(out, at, answer, &payload);
+    Step {
+        held: Held::Some(session),
+        at: to,
+    }
+}
+
+fn poll_nack(
+    s: Session,
+    entries: &mut [u64],
+    payloads: &mut [u8],
+    gaps: &mut [u64],
+    remembered: &mut [u64],
+    now: u64,
+    out: &mut [u8],
+    at: usize,
+) -> Step {
+    let mut numbers = [0u16; 4096];
+    let done = queue::nack::poll_nack(s, entries, payloads, gaps, remembered, now, &mut numbers);
+    let answer = done.answer;
+    let session = done.session;
+    let to = answers::poll_nack(out, at, answer, &numbers);
+    Step {
+        held: Held::Some(session),
+        at: to,
+    }
+}
+
+// The calls that leave the session as it is, whose answer is how many bytes of the output are filled.
+fn read(
+    s: Session,
+    entries: &mut [u64],
+    payloads: &mut [u8],
+    gaps: &mut [u64],
+    remembered: &mut [u64],
+    call: Call,
+    out: &mut [u8],
+    at: usize,
+) -> usize {
+    match call {
+        Call::TimeoutReceive(now) => {
+            let a = queue::reading::timeout_receive(s, entries, payloads, gaps, remembered, now);
+            answers::timeout(out, at, a)
+        }
+        Call::TimeoutNack(now) => {
+            let a = queue::reading::timeout_nack(s, entries, payloads, gaps, remembered, now);
+            answers::timeout(out, at, a)
+        }
+        Call::RtxStats => {
+            let a = queue::reading::rtx_stats(s, entries, payloads, gaps, remembered);
+            answers::rtx_stats(out, at, a)
+        }
+        Call::Highest => {
+            let a = queue::reading::highest_sequence_number_received(
+                s,
+                entries,
+                payloads,
+                gaps,
+                remembered,
+            );
+            answers::highest(out, at, a)
+        }
+        _ => lists::state(out, at, s, entries, payloads, gaps, remembered),
+    }
+}
+
+fn in_session(
+    s: Session,
+    entries: &mut [u64],
+    payloads: &mut [u8],
+    gaps: &mut [u64],
+    remembered: &mut [u64],
+    call: Call,
+    bytes: &[u8],
+    out: &mut [u8],
+    at: usize,
+) -> Step {
+    match call {
+        Call::Media(d) => media(s, entries, payloads, gaps, remembered, d, bytes, out, at),
+        Call::Repair(d) => repair(s, entries, payloads, gaps, remembered, d, bytes, out, at),
+        Call::Poll(now) => poll(s, entries, payloads, gaps, remembered, now, out, at),
+        Call::PollNack(now) => poll_nack(s, entries, payloads, gaps, remembered, now, out, at),
+        _ => Step {
+            held: Held::Some(s),
+            at: read(s, entries, payloads, gaps, remembered, call, out, at),
+        },
+    }
+}
+
+// A call on the session that is held, which is lent what its D and G ask for.
+fn on_held(
+    held: Held,
+    entries: &mut [u64],
+    payloads: &mut [u8],
+    gaps: &mut [u64],
+    remembered: &mut [u64],
+    call: Call,
+    bytes: &[u8],
+    out: &mut [u8],
+    at: usize,
+) -> Step {
+    let Held::Some(s) = held else {
+        let to = output::line(out, at, b"no session");
+        return Step { held, at: to };
+    };
+    let q = s.queue;
+    let config = q.config;
+    let settings = config.settings;
+    let words = lent(settings.max_entries, 8, entries.len());
+    let octets = lent(settings.max_entries, 640, payloads.len());
+    let places = lent(settings.max_gaps, 4, gaps.len());
+    in_session(
+        s,
+        &mut entries[0..words],
+        &mut payloads[0..octets],
+        &mut gaps[0..places],
+        remembered,
+        call,
+        bytes,
+        out,
+        at,
+    )
+}
+
+pub fn answer(
+    held: Held,
+    entries: &mut [u64],
+    payloads: &mut [u8],
+    gaps: &mut [u64],
+    remembered: &mut [u64],
+    call: Call,
+    bytes: &[u8; 2048],
+    out: &mut [u8],
+    at: usize,
+) -> Step {
+    match call {
+        Call::Open(f) => open(held, f, entries, payloads, gaps, remembered, out, at),
+        Call::Unreadable => unreadable(held, out, at),
+        _ => on_held(
+            held,
+            entries,
+            payloads,
+            gaps,
+            remembered,
+            call,
+            bytes,
+            out,
+            at,
+        ),
+    }
+}
+
+pub fn unreadable(held: Held, out: &mut [u8], at: usize) -> Step {
+    let to = output::line(out, at, b"unreadable");
+    Step { held, at: to }
+}

@@ -1,0 +1,198 @@
+// Standard input, line by line. A line is gathered in a lent buffer one byte longer than the longest: what fills it is too long.
+use crate::calls;
+use crate::calls::Held;
+use crate::calls::Step;
+use crate::output;
+use libc::STDIN_FILENO;
+
+// Puts a part of a line behind its first n bytes, as far as the buffer goes. How many stand there then.
+fn gather(line: &mut [u8], n: usize, part: &[u8]) -> usize {
+    if line.len() < n {
+        return n;
+    }
+    let room = line.len() - n;
+    if part.len() <= room {
+        bytes::copy(part, &mut line[n..]);
+        return n + part.len();
+    }
+    bytes::copy(&part[0..room], &mut line[n..]);
+    line.len()
+}
+
+// A whole line of n bytes.
+fn answer(
+    held: Held,
+    entries: &mut [u64],
+    payloads: &mut [u8],
+    gaps: &mut [u64],
+    remembered: &mut [u64],
+    line: &[u8],
+    n: usize,
+    out: &mut [u8],
+    filled: usize,
+) -> Step {
+    if line.len() < n {
+        return Step { held, at: filled };
+    }
+    if n == 0 {
+        return Step { held, at: filled };
+    }
+    if line[0] == b'#' {
+        return Step { held, at: filled };
+    }
+    let at = output::room(out, filled);
+    if n == line.len() {
+        return calls::unreadable(held, out, at);
+    }
+    let mut bytes = [0u8; 2048];
+    let call = trace::read(&line[0..n], &mut bytes);
+    calls::answer(
+        held,
+        entries,
+        payloads,
+        gaps,
+        remembered,
+        call,
+        &bytes,
+        out,
+        at,
+    )
+}
+
+// What a block of input leaves: the session, the n bytes of a line that has not ended, and how many bytes of the output are filled.
+struct Fed {
+    held: Held,
+    n: usize,
+    at: usize,
+}
+
+fn feed(
+    before: Held,
+    entries: &mut [u64],
+    payloads: &mut [u8],
+    gaps: &mut [u64],
+    remembered: &mut [u64],
+    line: &mut [u8],
+    had: usize,
+    block: &[u8],
+    out: &mut [u8],
+) -> Fed {
+    let mut held = before;
+    let mut n = had;
+    let mut at = 0;
+    let mut from = 0;
+    while from < block.len() {
+        let end = bytes::scan::find(block, from, block.len(), b'\n');
+        n = gather(line, n, &block[from..end]);
+        if end == block.len() {
+            return Fed { held, n, at };
+        }
+        from = end + 1;
+        let step = answer(held, entries, payloads, gaps, remembered, line, n, out, at);
+        let after = step.held;
+        held = after;
+        at = step.at;
+        n = 0;
+    }
+    Fed { held, n, at }
+}
+
+struct Turn {
+    held: Held,
+    n: usize,
+    more: bool,
+}
+
+// One block of input; its answers are written, so that a caller at the other end of a pipe can wait for them.
+fn next(
+    held: Held,
+    entries: &mut [u64],
+    payloads: &mut [u8],
+    gaps: &mut [u64],
+    remembered: &mut [u64],
+    line: &mut [u8],
+    n: usize,
+    out: &mut [u8],
+) -> Turn {
+    let mut block = io::large_buffer();
+    let got = libc::read(STDIN_FILENO, &mut block);
+    let count = io::count(got, &block);
+    if count == 0 {
+        return Turn {
+            held,
+            n,
+            more: false,
+        };
+    }
+    let fed = feed(
+        held,
+        entries,
+        payloads,
+        gaps,
+        remembered,
+        line,
+        n,
+        &block[..count],
+        out,
+    );
+    let after = fed.held;
+    output::write(out, fed.at);
+    Turn {
+        held: after,
+        n: fed.n,
+        more: true,
+    }
+}
+
+// Every block of input: the session after them, and how many bytes stand there of a last line with no line feed.
+fn blocks(
+    entries: &mut [u64],
+    payloads: &mut [u8],
+    gaps: &mut [u64],
+    remembered: &mut [u64],
+    line: &mut [u8],
+    out: &mut [u8],
+) -> Turn {
+    let mut held = Held::None;
+    let mut n = 0;
+    let mut turns = u64::MAX;
+    while 0 < turns {
+        let t = next(held, entries, payloads, gaps, remembered, line, n, out);
+        if !t.more {
+            return t;
+        }
+        let after = t.held;
+        held = after;
+        n = t.n;
+        turns -= 1;
+    }
+    Turn {
+        held,
+        n,
+        more: true,
+    }
+}
+
+pub fn run(
+    entries: &mut [u64],
+    payloads: &mut [u8],
+    gaps: &mut [u64],
+    remembered: &mut [u64],
+    line: &mut [u8],
+    out: &mut [u8],
+) {
+    let last = blocks(entries, payloads, gaps, remembered, line, out);
+    let held = last.held;
+    let step = answer(
+        held,
+        entries,
+        payloads,
+        gaps,
+        remembered,
+        line,
+        last.n,
+        out,
+        0,
+    );
+    output::write(out, step.at);
+}

@@ -1,0 +1,41 @@
+// Answers are gathered in a lent buffer, of which `at` bytes are filled, and written in blocks.
+use libc::STDOUT_FILENO;
+
+// More than any line of an answer has, that of a `nack` aside, whose numbers each make sure of their own room.
+const ROOM: usize = 1024;
+
+// Writes what is gathered.
+pub fn write(out: &[u8], at: usize) {
+    if at <= out.len() {
+        io::write_all(STDOUT_FILENO, &out[0..at]);
+    }
+}
+
+// Makes room for a line: the place to go on at.
+pub fn room(out: &[u8], at: usize) -> usize {
+    if out.len() < ROOM {
+        return at;
+    }
+    if at <= out.len() - ROOM {
+        return at;
+    }
+    write(out, at);
+    0
+}
+
+pub fn end(out: &mut [u8], at: usize) -> usize {
+    trace::put::text(out, at, b"\n")
+}
+
+// A line of a fixed text.
+pub fn line(out: &mut [u8], at: usize, text: &[u8]) -> usize {
+    let behind = trace::put::text(out, at, text);
+    end(out, behind)
+}
+
+// A line of a text and a number.
+pub fn number_line(out: &mut [u8], at: usize, text: &[u8], n: u64) -> usize {
+    let behind = trace::put::text(out, at, text);
+    let last = trace::put::number(out, behind, n);
+    end(out, last)
+}
