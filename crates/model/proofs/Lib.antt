@@ -9,3 +9,4 @@ pub mod SoundQueue
 pub mod SoundPush
 pub mod SoundPoll
 pub mod SoundCalls
+pub mod Flipped

@@ -10,3 +10,4 @@ pub mod Calls
 pub mod Table
 pub mod Did
 pub mod Working
+pub mod Flipped

@@ -1,5 +1,6 @@
 // The records of the queue (000) as they go in and come back by value, beside the storage that the caller lends. No code: specs/
 // holds what the queue is, for the contracts and for the theorem over every list of calls alike.
+ghost use Rattle.model.specs.Flipped.{FlippedBit};
 ghost use Rattle.model.specs.Working.{NeverLocksUp};
 use config::Senders;
 use config::Settings;
@@ -64,4 +65,9 @@ pub struct Session {
 // What the opening or an accepted call leaves is never refused under 16 at the next call.
 pub fn never_locks_up()
     ensures { λ r. ⌜ NeverLocksUp ⌝ }
+{}
+
+// One bit turned over in version, payload type or sender of a media packet or a repair is refused, and nothing is altered.
+pub fn flipped_bit()
+    ensures { λ r. ⌜ FlippedBit ⌝ }
 {}

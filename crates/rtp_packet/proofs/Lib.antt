@@ -5,3 +5,4 @@ pub mod Refused
 pub mod Alike
 pub mod Flip
 pub mod Answers
+pub mod OneBit
