@@ -9,5 +9,6 @@ pub mod Storage
 pub mod Calls
 pub mod Table
 pub mod Did
+pub mod Contract
 pub mod Working
 pub mod Flipped
