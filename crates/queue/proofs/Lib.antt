@@ -1,19 +1,3 @@
--- Laws of the queue's checks and calls.
-pub mod Checking
-pub mod Settled
-pub mod Unchanged
+-- Laws of the opening and of the calls that leave the session as it is.
 pub mod New
-pub mod Placing
-pub mod Media
-pub mod Turned
-pub mod Pushing
-pub mod Holding
-pub mod Parted
-pub mod Fronts
-pub mod Handed
-pub mod Losing
-pub mod Drained
-pub mod Polling
-pub mod Nacking
-pub mod Repaired
-pub mod Repairing
+pub mod Unchanged

@@ -14,8 +14,8 @@ use Rattle.model.specs.declared.Config.{Config}
 use Rattle.model.specs.Records.{newState}
 use Rattle.model.specs.Storage.{lengthsFit, entriesLaid, payloadsLaid, gapsLaid, rememberedLaid, write}
 use Rattle.model.specs.Table.{configValid, refuseIf, openingRefusal}
-use Rattle.queue.specs.Answers.{storage}
-use Rattle.queue.proofs.Checking.{Lengths, lengths-of}
+use Rattle.storage.specs.Stored.{storage}
+use Rattle.storage.proofs.Checking.{Lengths, lengths-of}
 
 module _ (c : Config) (e p g r : List ℕ) (h : openingRefusal c (storage e p g r) ≡ 0) where
   lengths : Lengths (c .settings) (storage e p g r)

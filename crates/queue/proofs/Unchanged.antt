@@ -1,12 +1,11 @@
 -- The calls that leave the session as it is: what they answer is read of the settled storage, which holds the lists that came.
 use mathlib.Core.Path.{_≡_, refl, sym, ap, subst, _∙_}
-use mathlib.Core.Bool.{Bool, true, false, _&&_}
+use mathlib.Core.Bool.{true}
 use mathlib.Core.List.{List, [], _∷_, zipWith}
 use Prim.Native.Nat.{ℕ, zero, suc, _*_, _≤_, _<_}
 use native.Mathlib.Omega.{arith}
-use lib.Dec.{T, leb, leb→le, le→leb}
+use lib.Dec.{T}
 use lib.ListN.{length, take, drop}
-use lib.Ieee.Fits.{and-l, and-r, and-i}
 use Rattle.words.specs.Blocks.{blocks}
 use Rattle.rtp.specs.declared.opt.Opt.{Opt}
 use Rattle.rtp.specs.declared.opt.Opt.the-variants as Opt
@@ -19,27 +18,24 @@ use Rattle.config.specs.declared.RtpInboundQueueMode.{RtpInboundQueueMode}
 use Rattle.config.specs.declared.RtpInboundQueueMode.the-variants.{Passthrough, SortedQueue}
 use Rattle.config.specs.declared.Settings.{Settings}
 use Rattle.config.specs.Timings.{nackTimings}
-use Rattle.config.specs.Valid.{settingsValid, sendersValid}
+use Rattle.config.specs.Valid.{settingsValid}
 use Rattle.model.specs.declared.LastReceived.{LastReceived}
 use Rattle.model.specs.declared.LastReceived.the-variants as LastReceived
-use Rattle.model.specs.declared.Received.{Received}
 use Rattle.model.specs.Records.{Entry}
-use Rattle.model.specs.declared.Queue.{Queue}
 use Rattle.model.specs.Lists.{every?}
-use Rattle.model.specs.Rules.{estimateIn}
 use Rattle.model.specs.Poll.{estimateOf, receiveTimeout, nackTimeout}
 use Rattle.model.specs.Valid.{lastSound}
 use Rattle.model.specs.Storage.{Stored, ENTRY-WORDS, PAYLOAD-BYTES, GAP-WORDS, entryOf, entriesOf, gapsOf, parse, write}
 use Rattle.model.specs.Calls as Calls
 use Rattle.model.specs.Calls.{Answer, Call, taken, answered, outputAfter}
-use Rattle.model.specs.Table.{configValid, sessionSound, sessionRefusal, clockRefusal, callRefusal, refusal}
+use Rattle.model.specs.Table.{sessionSound, sessionRefusal, clockRefusal, callRefusal, refusal}
 use Rattle.model.specs.Did.{accepted}
 use Rattle.model.proofs.Lists.{Each, each-first, each-imp}
-use Rattle.model.proofs.SoundQueue.{clock-of}
+use Rattle.model.proofs.SoundQueue.{clock-of, last-later}
 use Rattle.packet_gaps.specs.Gaps.{instantsFit, timeoutBy}
 use Rattle.packet_gaps.proofs.Model.{timeout-is}
-use Rattle.queue.specs.Answers.{stored, Does}
-use Rattle.queue.proofs.Settled.{checked, Ready, ready, instants, accepted-is, passed-16}
+use Rattle.storage.specs.Stored.{stored, Does}
+use Rattle.storage.proofs.Settled.{checked, Ready, ready, settings-in, instants, accepted-is, passed-16}
 
 pub alone : (a : ℕ) → a ≡ orElse a 0
 unfolding orElse
@@ -53,16 +49,6 @@ unfolding accepted
 left-as-is k m x a r e z t o b w = accepted-is k m r e z ∙ rw (t, o, b, w)
 
 -- ---- the front entry's timeout
-
-pub last-in : (now : ℕ) (l : LastReceived) (r : Received) → l ≡ LastReceived.Some r → T (lastSound now l) → (r .instant ≤ now) × (r .timestamp .0 ≤ largest)
-unfolding lastSound
-last-in now LastReceived.None r e t = absurd (let z : _≡_ {A = ℕ} 0 1 = cc in omega arith)
-last-in now (LastReceived.Some x) r e t =
-    let i = leb (x .instant) now in
-    let k = leb (x .number .0) largest in
-    let u = leb (x .timestamp .0) largest in
-    let same : x ≡ r = cc in
-    subst (λ (y : Received). (y .instant ≤ now) × (y .timestamp .0 ≤ largest)) same (leb→le _ _ (and-l i (u && k) t), leb→le _ _ (and-l u k (and-r i (u && k) t)))
 
 module _ (mode : RtpInboundQueueMode) (set : Settings) (last : LastReceived) (words bytes : List ℕ) (n now : ℕ) where
   empty : (mode : RtpInboundQueueMode) (last : LastReceived) → Opt.None ≡ receiveTimeout mode set last [] now
@@ -92,26 +78,11 @@ module _ (mode : RtpInboundQueueMode) (set : Settings) (last : LastReceived) (wo
 
 -- ---- what a timeout needs
 
-later : (a b : ℕ) (l : LastReceived) → a ≤ b → T (lastSound a l) → T (lastSound b l)
-unfolding lastSound
-later a b LastReceived.None h t = tt
-later a b (LastReceived.Some r) h t =
-    let rest = leb (r .timestamp .0) largest && leb (r .number .0) largest in
-    and-i (leb (r .instant) b) rest (le→leb (r .instant) b (omega (arith, leb→le (r .instant) a (and-l (leb (r .instant) a) rest t)))) (and-r (leb (r .instant) a) rest t)
-
 front-fits : (words bytes : List ℕ) (n : ℕ) → Each (λ (e : Entry). e .timestamp ≤ largest) (entriesOf words bytes n) → 0 < n
     → (p : List ℕ) → entryOf (take ENTRY-WORDS words) p .timestamp ≤ largest
 unfolding entriesOf blocks zipWith entryOf
 front-fits words bytes zero h lt p = absurd (omega arith)
 front-fits words bytes (suc n) h lt p = each-first h
-
-pub estimate-in : (q : Queue) → T (optRttInRange (q .rtx .rtt)) → T (optRttInRange (estimateOf q))
-unfolding estimateOf estimateIn optRttInRange
-estimate-in q t = go (q .config .senders .«has_rtx»)
-  where
-    go : (b : Bool) → T (optRttInRange (estimateIn b (q .rtx .rtt)))
-    go true = t
-    go false = tt
 
 module _ (m : Stored) (now : ℕ) (h : orElse (sessionRefusal m) (clockRefusal (m .session .queue) now) ≡ 0) where
   pub timely-sound : sessionSound m ≡ true
@@ -121,10 +92,7 @@ module _ (m : Stored) (now : ℕ) (h : orElse (sessionRefusal m) (clockRefusal (
   clock = clock-of (m .session .queue) now (orElse-none (sessionRefusal m) (clockRefusal (m .session .queue) now) h .1)
 
   valid : T (settingsValid (m .session .queue .config .settings))
-  unfolding configValid parse
-  valid =
-      let c = m .session .queue .config in
-      and-l (settingsValid (c .settings)) (sendersValid (c .senders)) (checked m timely-sound .sound .queue-in .config-in)
+  valid = settings-in m (checked m timely-sound)
 
   -- the settled slices
   module _ (e p g r : List ℕ) (w : stored (m .session) e p g r ≡ write (parse m)) where
@@ -139,7 +107,7 @@ module _ (m : Stored) (now : ℕ) (h : orElse (sessionRefusal m) (clockRefusal (
         let k = settled-is in
         let s = k .checked .sound in
         let l = subst (Each (λ (x : Entry). x .timestamp ≤ largest)) (sym (k .entries-are)) (each-imp (λ x i. i .timestamp-fits) (s .lists-in .entries-in)) in
-        ((valid, later (m .session .queue .clock) now (m .session .queue .last) (clock .0) (s .queue-in .last-in), clock .1), k .entries-in .room, front-fits e p (m .session .entries) l)
+        ((valid, last-later (m .session .queue .last) (clock .0) (s .queue-in .last-in), clock .1), k .entries-in .room, front-fits e p (m .session .entries) l)
 
     pub received-timeout : (t : Opt) → ((b : List ℕ) → t ≡ receiveTimeout (m .session .queue .config .settings .mode) (m .session .queue .config .settings) (m .session .queue .last) (entriesOf e b (m .session .entries)) now)
         → Does (Calls.timeoutReceive now) m (Calls.timeout t) (stored (m .session) e p g r) []

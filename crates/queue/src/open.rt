@@ -4,7 +4,8 @@ ghost use Rattle.model.specs.Records.{newState};
 ghost use Rattle.model.specs.Storage.{write};
 ghost use Rattle.model.specs.Table.{openingRefusal};
 ghost use Rattle.model.specs.Did.{opened};
-ghost use Rattle.queue.specs.Answers.{openingAnswer, storage};
+ghost use Rattle.queue.specs.Answers.{openingAnswer};
+ghost use Rattle.storage.specs.Stored.{storage};
 use super::Opening;
 use jitter::Jitter;
 use model::Config;
@@ -57,7 +58,7 @@ fn refusal(
         return refusals::SETTINGS;
     }
     let set = config.settings;
-    if super::check::lengths_fit(set, entries, payloads, gaps, remembered) {
+    if storage::lengths_fit(set, entries, payloads, gaps, remembered) {
         return 0;
     }
     refusals::SESSION

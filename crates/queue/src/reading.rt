@@ -6,21 +6,18 @@ ghost use Prim.Native.Nat.{ℕ, _*_, _≤_, _<_};
 ghost use lib.Dec.{T};
 ghost use lib.ListN.{length, take};
 ghost use Rattle.durations.specs.Seconds.{largest};
-ghost use Rattle.rtx_state.specs.RoundTrip.{optRttInRange};
 ghost use Rattle.config.specs.declared.RtpInboundQueueMode.the-variants.{SortedQueue};
-ghost use Rattle.config.specs.Timings.{nackTimings};
 ghost use Rattle.config.specs.Valid.{settingsValid};
-ghost use Rattle.packet_gaps.specs.Gaps.{Small};
 ghost use Rattle.model.specs.Records.{Entry, highestOf};
 ghost use Rattle.model.specs.Poll as Poll;
 ghost use Rattle.model.specs.Valid.{lastSound};
 ghost use Rattle.model.specs.Storage.{ENTRY-WORDS, entryOf, entriesOf};
 ghost use Rattle.model.specs.Calls as Calls;
-ghost use Rattle.queue.specs.Answers.{timeoutAnswer, statsAnswer, highestAnswer, stored, Does};
+ghost use Rattle.queue.specs.Answers.{timeoutAnswer, statsAnswer, highestAnswer};
+ghost use Rattle.storage.specs.Stored.{stored, Does};
 use super::HighestAnswer;
 use super::StatsAnswer;
 use super::TimeoutAnswer;
-use config::NackTimings;
 use config::RtpInboundQueueMode;
 use config::Settings;
 use model::LastReceived;
@@ -28,32 +25,7 @@ use model::Queue;
 use model::Session;
 use rtp::ExtendedRtpTimestamp;
 use rtp::opt::Opt;
-use rtx_state::OptRtt;
 use stats::OptRtxStats;
-
-// The measured round trip; a session without RTX has none.
-fn estimate_of(q: Queue) -> OptRtt
-    ensures { λ r. ⌜ r ≡ Poll.estimateOf q ⌝ }
-{
-    let config = q.config;
-    let rtx = q.rtx;
-    if config.senders.has_rtx {
-        rtx.rtt
-    } else {
-        OptRtt::None
-    }
-}
-
-// After how long a gap is NACKed, first and again.
-pub(crate) fn nack_timings(q: Queue) -> NackTimings
-    requires { ⌜ T (settingsValid (q .config .settings)) × T (optRttInRange (q .rtx .rtt)) ⌝ }
-    ensures { λ r. ⌜ r ≡ nackTimings (q .config .settings) (Poll.estimateOf q) ⌝ }
-    ensures { λ r. ⌜ Small r ⌝ }
-{
-    let config = q.config;
-    let set = config.settings;
-    set.nack_timings(estimate_of(q))
-}
 
 // Nanoseconds until the front entry of a sorted queue, which has this timestamp, is due.
 fn until_front(set: Settings, last: LastReceived, timestamp: u64, now: u64) -> Opt
@@ -106,18 +78,11 @@ pub fn timeout_receive(
 ) -> TimeoutAnswer
     ensures { λ r. ⌜ Does (Calls.timeoutReceive now) (stored session (entries .entry .now) (payloads .entry .now) (gaps .entry .now) (remembered .entry .now)) (timeoutAnswer r) (stored session (entries .exit .now) (payloads .exit .now) (gaps .exit .now) (remembered .exit .now)) [] ⌝ }
 {
-    let refusal = super::check::session_and_clock(
-        session,
-        entries,
-        payloads,
-        gaps,
-        remembered,
-        now,
-    );
+    let refusal = storage::session_and_clock(session, entries, payloads, gaps, remembered, now);
     if refusal != 0 {
         return TimeoutAnswer::Refused(refusal);
     }
-    super::check::settle(session, entries, payloads, gaps, remembered);
+    storage::settle(session, entries, payloads, gaps, remembered);
     TimeoutAnswer::Timeout(receive_timeout(session.queue, entries, session.entries, now))
 }
 
@@ -132,19 +97,12 @@ pub fn timeout_nack(
 ) -> TimeoutAnswer
     ensures { λ r. ⌜ Does (Calls.timeoutNack now) (stored session (entries .entry .now) (payloads .entry .now) (gaps .entry .now) (remembered .entry .now)) (timeoutAnswer r) (stored session (entries .exit .now) (payloads .exit .now) (gaps .exit .now) (remembered .exit .now)) [] ⌝ }
 {
-    let refusal = super::check::session_and_clock(
-        session,
-        entries,
-        payloads,
-        gaps,
-        remembered,
-        now,
-    );
+    let refusal = storage::session_and_clock(session, entries, payloads, gaps, remembered, now);
     if refusal != 0 {
         return TimeoutAnswer::Refused(refusal);
     }
-    super::check::settle(session, entries, payloads, gaps, remembered);
-    let timings = nack_timings(session.queue);
+    storage::settle(session, entries, payloads, gaps, remembered);
+    let timings = session::nack::nack_timings(session.queue);
     TimeoutAnswer::Timeout(packet_gaps::nacks::timeout_nacks(gaps, session.gaps, now, timings))
 }
 
@@ -170,11 +128,11 @@ pub fn rtx_stats(
 ) -> StatsAnswer
     ensures { λ r. ⌜ Does Calls.rtxStats (stored session (entries .entry .now) (payloads .entry .now) (gaps .entry .now) (remembered .entry .now)) (statsAnswer r) (stored session (entries .exit .now) (payloads .exit .now) (gaps .exit .now) (remembered .exit .now)) [] ⌝ }
 {
-    let refusal = super::check::session(session, entries, payloads, gaps, remembered);
+    let refusal = storage::session(session, entries, payloads, gaps, remembered);
     if refusal != 0 {
         return StatsAnswer::Refused(refusal);
     }
-    super::check::settle(session, entries, payloads, gaps, remembered);
+    storage::settle(session, entries, payloads, gaps, remembered);
     StatsAnswer::Stats(figures(session.queue))
 }
 
@@ -200,11 +158,11 @@ pub fn highest_sequence_number_received(
 ) -> HighestAnswer
     ensures { λ r. ⌜ Does Calls.highestReceived (stored session (entries .entry .now) (payloads .entry .now) (gaps .entry .now) (remembered .entry .now)) (highestAnswer r) (stored session (entries .exit .now) (payloads .exit .now) (gaps .exit .now) (remembered .exit .now)) [] ⌝ }
 {
-    let refusal = super::check::session(session, entries, payloads, gaps, remembered);
+    let refusal = storage::session(session, entries, payloads, gaps, remembered);
     if refusal != 0 {
         return HighestAnswer::Refused(refusal);
     }
-    super::check::settle(session, entries, payloads, gaps, remembered);
+    storage::settle(session, entries, payloads, gaps, remembered);
     let queue = session.queue;
     let last = queue.last;
     highest(last)

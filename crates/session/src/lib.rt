@@ -16,6 +16,7 @@ use rtp::RtpTimestamp;
 use rtp::SequenceNumber;
 
 pub mod check;
+pub mod nack;
 pub mod poll;
 pub mod push;
 pub mod rtx;

@@ -3,7 +3,7 @@ use mathlib.Core.Path.{sym, _∙_}
 use borrow.Author.Tests.{not-true, not-false}
 use Rattle.refusals.specs.Refusals.{orElse}
 use Rattle.model.specs.Table.{refuseIf, openingRefusal}
-use Rattle.queue.proofs.Checking.{valid-usable}
+use Rattle.storage.proofs.Checking.{valid-usable}
 use borrow.Author.Needs.{needs}
 use Rattle.queue.proofs.open.refusal.Statement.{statement}
 use Rattle.queue.proofs.open.refusal.Tie as tie

@@ -5,7 +5,7 @@ use Rattle.rtp.specs.declared.opt.Opt.the-variants as Opt
 use Rattle.config.proofs.Facts.{usable}
 use Rattle.model.specs.declared.LastReceived.the-variants.{None, Some}
 use Rattle.model.specs.Poll.{receiveTimeout}
-use Rattle.queue.proofs.Unchanged.{last-in}
+use Rattle.session.proofs.Bounds.{last-in}
 use borrow.Author.Needs.{needs}
 use Rattle.queue.proofs.reading.until_front.Statement.{statement}
 use Rattle.queue.proofs.reading.until_front.Tie as tie

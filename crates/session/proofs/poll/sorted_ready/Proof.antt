@@ -1,17 +1,10 @@
 -- `sorted_ready` meets its contract, arm by arm; check 16 and the clock bound what the limit is reckoned from.
-use mathlib.Core.Path.{_≡_, subst, _∙_}
-use mathlib.Core.Bool.{_&&_}
-use Prim.Native.Nat.{ℕ, _≤_}
+use mathlib.Core.Path.{_≡_, _∙_}
 use native.Mathlib.Omega.{arith}
-use lib.Dec.{T, leb, leb→le}
-use lib.Ieee.Fits.{and-l, and-r}
-use Rattle.durations.specs.Seconds.{largest}
 use Rattle.config.proofs.Facts.{usable}
-use Rattle.model.specs.declared.Received.{Received}
-use Rattle.model.specs.declared.LastReceived.{LastReceived}
 use Rattle.model.specs.declared.LastReceived.the-variants.{None, Some}
-use Rattle.model.specs.Valid.{lastSound}
 use Rattle.model.specs.Poll.{ready}
+use Rattle.session.proofs.Bounds.{last-in}
 use borrow.Author.Needs.{needs}
 use Rattle.session.proofs.poll.sorted_ready.Statement.{statement}
 use Rattle.session.proofs.poll.sorted_ready.Tie as tie
@@ -25,21 +18,13 @@ enum-known-last c = search needs
 target-delay-requires : tie.Need-target-delay-requires
 target-delay-requires c κs = search needs
 
-last-in : (clock : ℕ) (r : Received) → T (lastSound clock (Some r)) → (r .instant ≤ clock) × (r .timestamp .0 ≤ largest)
-unfolding lastSound
-last-in clock r t =
-    let a = leb (r .instant) clock in
-    let b = leb (r .timestamp .0) largest in
-    let n = leb (r .number .0) largest in
-    (leb→le (r .instant) clock (and-l a (b && n) t), leb→le (r .timestamp .0) largest (and-l b n (and-r a (b && n) t)))
-
 max-timestamp-requires : tie.Need-max-timestamp-requires
 max-timestamp-requires c κs =
     let s = c .before .before .before .before .before .before in
     let q = s .args .q in
     let r = c .before .before .last .given .0 .0 in
     let e : q .last ≡ Some r = c .before .before .last .given .1 in
-    let l = last-in (q .clock) r (subst (λ (x : LastReceived). T (lastSound (q .clock) x)) e (s .pre .1 .1)) in
+    let l = last-in (q .clock) (q .last) r e (s .pre .1 .1) in
     let u = usable (q .config .settings) (s .pre .1 .0) in
     let d = c .target-delay .ensures in
     (omega (arith, l .0, s .pre .0), l .1, u .rate, omega (arith, d, u .delay), s .pre .0 .1)

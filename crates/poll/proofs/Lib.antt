@@ -1,0 +1,9 @@
+-- Laws of `poll` and `poll_nack`.
+pub mod Holding
+pub mod Parted
+pub mod Fronts
+pub mod Handed
+pub mod Losing
+pub mod Drained
+pub mod Polling
+pub mod Nacking

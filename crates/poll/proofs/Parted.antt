@@ -1,0 +1,61 @@
+-- Gaps that are given up or lost stand at the front, and those that stay after them; so both are said by a count.
+use mathlib.Core.Path.{_≡_, refl, sym, ap, _∙_}
+use mathlib.Core.Bool.{true}
+use mathlib.Core.List.{List}
+use Prim.Native.Nat.{ℕ, _-_, _≤_}
+use native.Mathlib.Omega.{arith}
+use lib.ListN.{length, take, drop, length-take, length-drop}
+use Rattle.words.specs.Order.{ascends}
+use Rattle.config.specs.declared.Settings.{Settings}
+use Rattle.config.specs.declared.RtpInboundQueueMode.{RtpInboundQueueMode}
+use Rattle.config.specs.declared.RtpInboundQueueMode.the-variants.{Passthrough, SortedQueue}
+use Rattle.model.specs.Lists.{leading}
+use Rattle.model.specs.declared.Queue.{Queue}
+use Rattle.model.specs.declared.Session.{Session}
+use Rattle.model.specs.Records.{Gap, gapNumbers, withClock}
+use Rattle.model.specs.Rules.{tried}
+use Rattle.model.specs.Poll.{lose, givenUp, notGivenUp, lostBelow, leftFrom}
+use Rattle.packet_gaps.proofs.Model.{below-parts, leading-front}
+use Rattle.poll.specs.Steps.{drainedSession}
+
+-- ---- given up
+
+module _ (set : Settings) where
+  pub given-up-le : (mode : RtpInboundQueueMode) (l : List Gap) → length (givenUp set mode l) ≤ length l
+  unfolding givenUp
+  given-up-le Passthrough l = let f = leading-front (tried (set .«max_nack_attempts»)) l in omega (arith, ap length (f .0), length-take (length (leading (tried (set .«max_nack_attempts»)) l)) l)
+  given-up-le SortedQueue l = omega arith
+
+  pub not-given-up : (mode : RtpInboundQueueMode) (l : List Gap) → notGivenUp set mode l ≡ drop (length (givenUp set mode l)) l
+  unfolding givenUp notGivenUp
+  not-given-up Passthrough l = leading-front (tried (set .«max_nack_attempts»)) l .1
+  not-given-up SortedQueue l = refl
+
+  pub length-not-given-up : (mode : RtpInboundQueueMode) (l : List Gap) → length (notGivenUp set mode l) ≡ length l - length (givenUp set mode l)
+  length-not-given-up mode l = ap length (not-given-up mode l) ∙ length-drop (length (givenUp set mode l)) l
+
+-- ---- below the one handed out
+
+module _ (x : ℕ) (l : List Gap) (a : ascends (gapNumbers l) ≡ true) where
+  pub lost-front : (mode : RtpInboundQueueMode) → take (length (lostBelow mode x l)) l ≡ lostBelow mode x l
+  unfolding lostBelow
+  lost-front Passthrough = refl
+  lost-front SortedQueue = sym (below-parts x l a .0)
+
+  pub left-front : (mode : RtpInboundQueueMode) → drop (length (lostBelow mode x l)) l ≡ leftFrom mode x l
+  unfolding lostBelow leftFrom
+  left-front Passthrough = refl
+  left-front SortedQueue = sym (below-parts x l a .1)
+
+  pub lost-le : (mode : RtpInboundQueueMode) → length (lostBelow mode x l) ≤ length l
+  lost-le mode = omega (arith, ap length (lost-front mode), length-take (length (lostBelow mode x l)) l)
+
+-- ---- the session after `drain`
+
+pub drained-is : (now : ℕ) (s : Session) (l : List Gap) (k : ℕ) (q : Queue) → length l ≡ s .gaps → k ≡ length (givenUp (s .queue .config .settings) (s .queue .config .settings .mode) l)
+    → q ≡ lose k (withClock (s .queue) now) → record { queue = q; entries = s .entries; gaps = s .gaps - k; remembered = s .remembered } ≡ drainedSession now s l
+unfolding drainedSession
+drained-is now s l k q en ek eq =
+    let set = s .queue .config .settings in
+    let z : s .gaps - k ≡ length (notGivenUp set (set .mode) l) = omega (arith, length-not-given-up set (set .mode) l, en, ek) in
+    rw (z, eq, ek)

@@ -1,0 +1,27 @@
+-- `goes_out` meets its contract: no entry, or the first, by its timestamp.
+use mathlib.Core.Path.{sym, ap, _∙_}
+use lib.ListN.{take}
+use Rattle.model.specs.Records.{Entry}
+use Rattle.model.specs.Storage.{PAYLOAD-BYTES}
+use Rattle.poll.proofs.Fronts.{hands-none, hands-first}
+use borrow.Author.Needs.{needs}
+use Rattle.poll.proofs.goes_out.Statement.{statement}
+use Rattle.poll.proofs.goes_out.Tie as tie
+
+returns : tie.Need-returns
+returns c payloads = let s = c .before .before in hands-none (s .args .instant) (s .args .q) (s .args .entries .now) payloads (s .args .n) (c .if1 .taken)
+
+read-requires : tie.Need-read-requires
+read-requires c κs = search needs
+
+ready-requires : tie.Need-ready-requires
+ready-requires c κs = search needs
+
+returns-2 : tie.Need-returns-2
+returns-2 c payloads =
+    let s = c .before .before .before .before in
+    c .ready .ensures _ (ap (λ (e : Entry). e .timestamp) (c .before .read .ensures (take PAYLOAD-BYTES payloads)))
+    ∙ sym (hands-first (s .args .instant) (s .args .q) (s .args .entries .now) payloads (s .args .n) (c .before .before .if1 .left))
+
+pub goes-out-spec : {M : Type 1} → statement M
+goes-out-spec = tie.close (tie.spec returns read-requires ready-requires returns-2)

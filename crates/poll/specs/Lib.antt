@@ -1,0 +1,3 @@
+-- What the contracts of `poll` and `poll_nack` cite beside `model`'s definitions.
+pub mod Answers
+pub mod Steps

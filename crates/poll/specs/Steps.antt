@@ -1,0 +1,69 @@
+-- What the steps of `poll` and `poll_nack` find in storage and leave there.
+use mathlib.Core.Path.{_≡_}
+use mathlib.Core.Bool.{Bool, true, false}
+use mathlib.Core.List.{List, [], _∷_}
+use Prim.Native.Nat.{ℕ, _+_, _*_, _≤_, _<_, _^_}
+use lib.Dec.{T}
+use lib.ListN.{length}
+use Rattle.words.specs.Blocks.{laid}
+use Rattle.words.specs.Order.{ascends}
+use Rattle.rtx_state.specs.RoundTrip.{optRttInRange}
+use Rattle.config.specs.Valid.{settingsValid}
+use Rattle.model.specs.declared.Queue.{Queue}
+use Rattle.model.specs.declared.Session.{Session}
+use Rattle.model.specs.Records.{Entry, Gap, State, gapNumbers, withClock}
+use Rattle.model.specs.Rules.{MAX-LOST-NACKED, due}
+use Rattle.model.specs.Lists.{keep, some?, every?}
+use Rattle.model.specs.Poll.{lose, givenUp, notGivenUp, ready, front, estimateOf}
+use Rattle.model.specs.Storage.{Storage, Stored, REMEMBERED-WORDS, entryWords, payloadBytes, gapWords, rememberedWords, gapsOf, write}
+use Rattle.model.specs.Table.{lostWith}
+use Rattle.packet_gaps.specs.Gaps.{GapsIn, instantsFit, full}
+use Rattle.entries.specs.Entries.{EntriesIn}
+use Rattle.lost_nacked.specs.Remembered.{RememberedIn}
+
+-- an entry is there to go out
+pub record Handing (m : Stored) : Type 0 where
+  pub entries-in : EntriesIn (m .storage .entries) (m .storage .payloads) (m .session .entries)
+  pub some : 0 < m .session .entries
+  pub gaps-in : GapsIn (m .storage .gaps) (m .session .gaps)
+  pub ascend : ascends (gapNumbers (gapsOf (m .storage .gaps) (m .session .gaps))) ≡ true
+  pub remembered-in : RememberedIn (m .storage .remembered) (m .session .remembered)
+  pub few : m .session .remembered ≤ MAX-LOST-NACKED
+  pub room : REMEMBERED-WORDS * MAX-LOST-NACKED ≤ length (m .storage .remembered)
+  pub lost-fits : m .session .queue .counters .lost + m .session .gaps < 2 ^ 64
+
+-- session and slices are those of s, in slices as long as those of t
+pub record Leaves (s : State) (t : Storage) (m : Stored) : Type 0 where
+  pub session-is : m .session ≡ write s .session
+  pub entries-are : m .storage .entries ≡ laid entryWords (length (t .entries)) (s .entries)
+  pub payloads-are : m .storage .payloads ≡ laid payloadBytes (length (t .payloads)) (s .entries)
+  pub gaps-are : m .storage .gaps ≡ laid gapWords (length (t .gaps)) (s .gaps)
+  pub remembered-are : m .storage .remembered ≡ laid rememberedWords (length (t .remembered)) (s .remembered)
+
+-- whether the front entry goes out: `front` of `model` has it then
+unfoldable pub handsOut : ℕ → Queue → List Entry → Bool
+handsOut now q [] = false
+handsOut now q (e ∷ es) = ready q (q .config .settings .mode) (q .last) now e
+
+-- the session beside the storage of `drained`
+unfoldable pub drainedSession : ℕ → Session → List Gap → Session
+drainedSession now s gaps =
+    let set = s .queue .config .settings in
+    record { queue = lose (length (givenUp set (set .mode) gaps)) (withClock (s .queue) now); entries = s .entries; gaps = length (notGivenUp set (set .mode) gaps); remembered = s .remembered }
+
+-- the gaps that `poll` makes lost
+unfoldable pub lostFor : ℕ → State → List Gap
+lostFor now s = lostWith now s (front now s (s .entries))
+
+-- the gaps that are NACKed once those given up are out
+unfoldable pub dueLeft : ℕ → Queue → List Gap → List Gap
+dueLeft now q gaps = keep (due (q .config .settings) (estimateOf q) now) (notGivenUp (q .config .settings) (q .config .settings .mode) gaps)
+
+-- each gap can be NACKed that is due
+pub record Nacking (now : ℕ) (s : Session) (gaps : List ℕ) : Type 0 where
+  pub gaps-in : GapsIn gaps (s .gaps)
+  pub lost-fits : s .queue .counters .lost + s .gaps < 2 ^ 64
+  pub settings : T (settingsValid (s .queue .config .settings))
+  pub estimate : T (optRttInRange (s .queue .rtx .rtt))
+  pub instants : every? instantsFit (gapsOf gaps (s .gaps)) ≡ true
+  pub none-full : some? full (dueLeft now (s .queue) (gapsOf gaps (s .gaps))) ≡ false

@@ -1,0 +1,327 @@
+// `poll` (000; 01, "Hand-out"): the gaps given up, then the front entry, if its time has come.
+ghost use mathlib.Core.Path.{_≡_};
+ghost use mathlib.Core.Bool.{true};
+ghost use mathlib.Core.List.{List};
+ghost use Prim.Native.Nat.{ℕ, _+_, _*_, _≤_, _<_, _^_};
+ghost use lib.Dec.{T};
+ghost use lib.ListN.{length, take, drop};
+ghost use Rattle.words.specs.Blocks.{laid};
+ghost use Rattle.words.specs.Order.{ascends};
+ghost use Rattle.words.specs.Words.{over};
+ghost use Rattle.durations.specs.Seconds.{largest};
+ghost use Rattle.config.specs.Valid.{settingsValid};
+ghost use Rattle.model.specs.Records.{gapNumbers};
+ghost use Rattle.model.specs.Rules.{MAX-LOST-NACKED, rememberedAfter};
+ghost use Rattle.model.specs.Poll.{givenUp, notGivenUp, lostBelow, handOut};
+ghost use Rattle.model.specs.Valid.{lastSound};
+ghost use Rattle.model.specs.Storage.{ENTRY-WORDS, PAYLOAD-BYTES, GAP-WORDS, REMEMBERED-WORDS, gapWords, rememberedWords, entriesOf, gapsOf, rememberedOf, parse};
+ghost use Rattle.packet_gaps.specs.Gaps.{GapsIn};
+ghost use Rattle.lost_nacked.specs.Remembered.{RememberedIn};
+ghost use Rattle.model.specs.Calls as Calls;
+ghost use Rattle.model.specs.Table as Table;
+ghost use Rattle.model.specs.Table.{pollRefusal};
+ghost use Rattle.model.specs.Did.{accepted};
+ghost use Rattle.model.specs.Calls.{delayIn, handed, payloadOut};
+ghost use Rattle.entries.specs.Entries.{entry};
+ghost use Rattle.poll.specs.Answers as Answers;
+ghost use Rattle.storage.specs.Stored.{storage, stored, Does};
+ghost use Rattle.storage.specs.Settled.{Settled};
+ghost use Rattle.poll.specs.Steps.{Handing, Leaves, handsOut, drainedSession, lostFor};
+use config::RtpInboundQueueMode;
+use config::Settings;
+use entries::Entry;
+use model::Queue;
+use model::Session;
+use rtp::ExtendedRtpTimestamp;
+use rtp::ExtendedSequenceNumber;
+use rtp::RtpTimestamp;
+use rtp::SequenceNumber;
+use rtp::Ssrc;
+use rtp::opt::Opt;
+
+pub mod nack;
+
+// A packet as `poll` hands it out: its own fields, the instant it came (none for a repair) and the delay; `size` bytes of the output
+// are its payload.
+pub struct HandedOut {
+    pub pt: u8,
+    pub sequence_number: SequenceNumber,
+    pub timestamp: RtpTimestamp,
+    pub ssrc: Ssrc,
+    pub marker: bool,
+    pub received_at: Opt,
+    pub delay: u64,
+    pub size: usize,
+}
+
+pub enum PollAnswer {
+    Nothing,
+    Packet(HandedOut),
+    Refused(u64),
+}
+
+pub struct Polled {
+    pub answer: PollAnswer,
+    pub session: Session,
+}
+
+// How many gaps at the front are given up.
+pub(crate) fn given_up(q: Queue, gaps: &[u64], n: usize) -> usize
+    requires { ⌜ GAP-WORDS * n ≤ length (now gaps) ⌝ }
+    ensures { λ r. ⌜ r ≡ length (givenUp (q .config .settings) (q .config .settings .mode) (gapsOf (now (gaps .entry)) n)) ⌝ }
+{
+    let config = q.config;
+    let settings = config.settings;
+    let mode = settings.mode;
+    match mode {
+        RtpInboundQueueMode::Passthrough => {
+            packet_gaps::nacks::count_lost(gaps, n, settings.max_nack_attempts)
+        }
+        RtpInboundQueueMode::SortedQueue => 0,
+    }
+}
+
+// Takes the first k gaps out; where there are none to take, nothing moves.
+fn take_front(gaps: &mut [u64], n: usize, k: usize)
+    requires { ⌜ GapsIn (now gaps) n ⌝ }
+    requires { ⌜ k ≤ n ⌝ }
+    ensures { λ _. ⌜ now (gaps .exit) ≡ laid gapWords (length (now (gaps .entry))) (drop k (gapsOf (now (gaps .entry)) n)) ⌝ }
+{
+    if k == 0 {
+        return;
+    }
+    packet_gaps::drain(gaps, n, k);
+}
+
+// The clock, then `drain_lost`.
+pub(crate) fn drain(s: Session, gaps: &mut [u64], instant: u64) -> Session
+    requires { ⌜ GapsIn (now gaps) (s .gaps) ⌝ }
+    requires { ⌜ s .queue .counters .lost + s .gaps < 2 ^ 64 ⌝ }
+    ensures { λ r. ⌜ r ≡ drainedSession instant s (gapsOf (now (gaps .entry)) (s .gaps)) ⌝ }
+    ensures { λ _. ⌜ now (gaps .exit) ≡ laid gapWords (length (now (gaps .entry))) (notGivenUp (s .queue .config .settings) (s .queue .config .settings .mode) (gapsOf (now (gaps .entry)) (s .gaps))) ⌝ }
+{
+    let queue = s.queue;
+    let k = given_up(queue, gaps, s.gaps);
+    let drained = session::poll::drained(queue, instant, k as u64);
+    take_front(gaps, s.gaps, k);
+    Session {
+        queue: drained,
+        entries: s.entries,
+        gaps: s.gaps - k,
+        remembered: s.remembered,
+    }
+}
+
+// How many gaps become lost as the entry of the number goes out.
+fn lost_below(q: Queue, gaps: &[u64], n: usize, number: u64) -> usize
+    requires { ⌜ GAP-WORDS * n ≤ length (now gaps) ⌝ }
+    requires { ⌜ ascends (gapNumbers (gapsOf (now gaps) n)) ≡ true ⌝ }
+    ensures { λ r. ⌜ r ≡ length (lostBelow (q .config .settings .mode) number (gapsOf (now (gaps .entry)) n)) ⌝ }
+{
+    let config = q.config;
+    let settings = config.settings;
+    let mode = settings.mode;
+    match mode {
+        RtpInboundQueueMode::Passthrough => 0,
+        RtpInboundQueueMode::SortedQueue => packet_gaps::count_below(gaps, n, number),
+    }
+}
+
+// Remembers the first `lost` gaps, where the session has RTX; the answer is how many are remembered then.
+fn remember(q: Queue, remembered: &mut [u64], n: usize, gaps: &[u64], lost: usize) -> usize
+    requires { ⌜ RememberedIn (now remembered) n ⌝ }
+    requires { ⌜ (n ≤ MAX-LOST-NACKED) × (REMEMBERED-WORDS * MAX-LOST-NACKED ≤ length (now remembered)) ⌝ }
+    requires { ⌜ GAP-WORDS * lost ≤ length (now gaps) ⌝ }
+    ensures { λ r. ⌜ r ≡ length (rememberedAfter (q .config .senders .«has_rtx») (gapsOf (now (gaps .entry)) lost) (rememberedOf (now (remembered .entry)) n)) ⌝ }
+    ensures { λ _. ⌜ now (remembered .exit) ≡ laid rememberedWords (length (now (remembered .entry))) (rememberedAfter (q .config .senders .«has_rtx») (gapsOf (now (gaps .entry)) lost) (rememberedOf (now (remembered .entry)) n)) ⌝ }
+{
+    if q.config.senders.has_rtx {
+        return lost_nacked::note_lost(remembered, n, gaps, lost);
+    }
+    n
+}
+
+// Whether the front entry goes out.
+fn goes_out(q: Queue, entries: &[u64], n: usize, instant: u64) -> bool
+    requires { ⌜ ENTRY-WORDS * n ≤ length (now entries) ⌝ }
+    requires { ⌜ (q .clock ≤ instant) × (instant ≤ largest) ⌝ }
+    requires { ⌜ T (settingsValid (q .config .settings)) × T (lastSound (q .clock) (q .last)) ⌝ }
+    ensures { λ r. ⌜ ((payloads : List ℕ) → r ≡ handsOut instant q (entriesOf (now (entries .entry)) payloads n)) ⌝ }
+{
+    if n == 0 {
+        return false;
+    }
+    let e = entries::read(entries, 0);
+    session::poll::ready(q, instant, e.timestamp)
+}
+
+// How long a packet waits.
+fn delay_of(settings: Settings) -> u64
+    ensures { λ r. ⌜ r ≡ delayIn (settings .mode) settings ⌝ }
+{
+    let mode = settings.mode;
+    match mode {
+        RtpInboundQueueMode::Passthrough => 0,
+        RtpInboundQueueMode::SortedQueue => settings.target_delay(),
+    }
+}
+
+fn packet(q: Queue, e: Entry) -> HandedOut
+    ensures { λ r. ⌜ ((payload : List ℕ) → length payload ≡ e .size → Answers.packetOf r ≡ Calls.packetOf q (entry e payload)) ⌝ }
+{
+    let config = q.config;
+    let senders = config.senders;
+    let settings = config.settings;
+    let sequence_number = ExtendedSequenceNumber(e.number).truncated();
+    let timestamp = ExtendedRtpTimestamp(e.timestamp).truncated();
+    let ssrc = senders.ssrc;
+    let received_at = e.arrival;
+    let delay = delay_of(settings);
+    HandedOut {
+        pt: senders.pt,
+        sequence_number,
+        timestamp,
+        ssrc,
+        marker: e.marker,
+        received_at,
+        delay,
+        size: e.size,
+    }
+}
+
+// The front entry goes out; in a sorted queue the gaps below it are lost.
+fn hand_out(
+    s: Session,
+    entries: &mut [u64],
+    payloads: &mut [u8],
+    gaps: &mut [u64],
+    remembered: &mut [u64],
+    out: &mut [u8],
+) -> Polled
+    requires { ⌜ Handing (stored s (now entries) (now payloads) (now gaps) (now remembered)) ⌝ }
+    requires { ⌜ PAYLOAD-BYTES ≤ length (now out) ⌝ }
+    ensures { λ r. ⌜ Leaves (handOut (take 1 (entriesOf (now (entries .entry)) (now (payloads .entry)) (s .entries))) (parse (stored s (now (entries .entry)) (now (payloads .entry)) (now (gaps .entry)) (now (remembered .entry))))) (storage (now (entries .entry)) (now (payloads .entry)) (now (gaps .entry)) (now (remembered .entry))) (stored (r .session) (now (entries .exit)) (now (payloads .exit)) (now (gaps .exit)) (now (remembered .exit))) ⌝ }
+    ensures { λ r. ⌜ Answers.pollAnswer (r .answer) ≡ handed (s .queue) (take 1 (entriesOf (now (entries .entry)) (now (payloads .entry)) (s .entries))) ⌝ }
+    ensures { λ r. ⌜ now (out .exit) ≡ over (payloadOut (take 1 (entriesOf (now (entries .entry)) (now (payloads .entry)) (s .entries)))) (now (out .entry)) ⌝ }
+{
+    let queue = s.queue;
+    let e = entries::pop_front(entries, payloads, s.entries, out);
+    let lost = lost_below(queue, gaps, s.gaps, e.number);
+    let count = remember(queue, remembered, s.remembered, gaps, lost);
+    take_front(gaps, s.gaps, lost);
+    let next = session::poll::handed_out(queue, lost as u64, e.number);
+    let left = Session {
+        queue: next,
+        entries: s.entries - 1,
+        gaps: s.gaps - lost,
+        remembered: count,
+    };
+    let answer = PollAnswer::Packet(packet(queue, e));
+    Polled {
+        answer,
+        session: left,
+    }
+}
+
+// How many gaps become lost: those given up, and those below the entry that goes out.
+fn lost_with(s: Session, entries: &[u64], gaps: &[u64], instant: u64) -> usize
+    requires { ⌜ (ENTRY-WORDS * s .entries ≤ length (now entries)) × (GAP-WORDS * s .gaps ≤ length (now gaps)) ⌝ }
+    requires { ⌜ ascends (gapNumbers (gapsOf (now gaps) (s .gaps))) ≡ true ⌝ }
+    requires { ⌜ (s .queue .clock ≤ instant) × (instant ≤ largest) ⌝ }
+    requires { ⌜ T (settingsValid (s .queue .config .settings)) × T (lastSound (s .queue .clock) (s .queue .last)) ⌝ }
+    ensures { λ r. ⌜ ((payloads remembered : List ℕ) → r ≡ length (lostFor instant (parse (stored s (now (entries .entry)) payloads (now (gaps .entry)) remembered)))) ⌝ }
+{
+    let queue = s.queue;
+    let given = given_up(queue, gaps, s.gaps);
+    if !goes_out(queue, entries, s.entries, instant) {
+        return given;
+    }
+    let first = entries::read(entries, 0);
+    given + lost_below(queue, gaps, s.gaps, first.number)
+}
+
+// 15, 8, 14
+fn late_refusal(s: Session, entries: &[u64], gaps: &[u64], instant: u64, room: usize) -> u64
+    requires { ⌜ (ENTRY-WORDS * s .entries ≤ length (now entries)) × (GAP-WORDS * s .gaps ≤ length (now gaps)) ⌝ }
+    requires { ⌜ ascends (gapNumbers (gapsOf (now gaps) (s .gaps))) ≡ true ⌝ }
+    requires { ⌜ T (settingsValid (s .queue .config .settings)) × T (lastSound (s .queue .clock) (s .queue .last)) ⌝ }
+    requires { ⌜ s .queue .counters .lost + s .gaps < 2 ^ 64 ⌝ }
+    ensures { λ r. ⌜ ((payloads remembered out : List ℕ) → length out ≡ room → r ≡ pollRefusal instant out (parse (stored s (now (entries .entry)) payloads (now (gaps .entry)) remembered))) ⌝ }
+{
+    if room < 320 {
+        return refusals::OUTPUT;
+    }
+    let late = session::check::clock(s.queue, instant);
+    if late != 0 {
+        return late;
+    }
+    let lost = lost_with(s, entries, gaps, instant);
+    session::poll::lost_refusal(s.queue, lost as u64)
+}
+
+// The number of the first check that catches the call, or 0.
+fn refusal(
+    s: Session,
+    entries: &[u64],
+    payloads: &[u8],
+    gaps: &[u64],
+    remembered: &[u64],
+    instant: u64,
+    room: usize,
+) -> u64
+    ensures { λ r. ⌜ ((out : List ℕ) → length out ≡ room → r ≡ Table.refusal (Calls.poll instant out) (stored s (now (entries .entry)) (now (payloads .entry)) (now (gaps .entry)) (now (remembered .entry)))) ⌝ }
+{
+    let damaged = storage::session(s, entries, payloads, gaps, remembered);
+    if damaged != 0 {
+        return damaged;
+    }
+    late_refusal(s, entries, gaps, instant, room)
+}
+
+// What `poll` does to a settled session.
+fn accept(
+    s: Session,
+    entries: &mut [u64],
+    payloads: &mut [u8],
+    gaps: &mut [u64],
+    remembered: &mut [u64],
+    instant: u64,
+    out: &mut [u8],
+) -> Polled
+    requires { ⌜ Settled (stored s (now entries) (now payloads) (now gaps) (now remembered)) ⌝ }
+    requires { ⌜ pollRefusal instant (now out) (parse (stored s (now entries) (now payloads) (now gaps) (now remembered))) ≡ 0 ⌝ }
+    ensures { λ r. ⌜ accepted (Calls.poll instant (now (out .entry))) (parse (stored s (now (entries .entry)) (now (payloads .entry)) (now (gaps .entry)) (now (remembered .entry)))) ≡ record { answer = Answers.pollAnswer (r .answer); stored = stored (r .session) (now (entries .exit)) (now (payloads .exit)) (now (gaps .exit)) (now (remembered .exit)); output = now (out .exit) } ⌝ }
+{
+    let ready = goes_out(s.queue, entries, s.entries, instant);
+    let drained = drain(s, gaps, instant);
+    if !ready {
+        return Polled {
+            answer: PollAnswer::Nothing,
+            session: drained,
+        };
+    }
+    hand_out(drained, entries, payloads, gaps, remembered, out)
+}
+
+// Hands out the front entry, if its time has come: its payload goes to the front of `out`.
+pub fn poll(
+    session: Session,
+    entries: &mut [u64],
+    payloads: &mut [u8],
+    gaps: &mut [u64],
+    remembered: &mut [u64],
+    now: u64,
+    out: &mut [u8],
+) -> Polled
+    ensures { λ r. ⌜ Does (Calls.poll now (out .entry .now)) (stored session (entries .entry .now) (payloads .entry .now) (gaps .entry .now) (remembered .entry .now)) (Answers.pollAnswer (r .answer)) (stored (r .session) (entries .exit .now) (payloads .exit .now) (gaps .exit .now) (remembered .exit .now)) (out .exit .now) ⌝ }
+{
+    let refused = refusal(session, entries, payloads, gaps, remembered, now, out.len());
+    if refused != 0 {
+        return Polled {
+            answer: PollAnswer::Refused(refused),
+            session,
+        };
+    }
+    storage::settle(session, entries, payloads, gaps, remembered);
+    accept(session, entries, payloads, gaps, remembered, now, out)
+}

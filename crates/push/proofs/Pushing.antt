@@ -1,0 +1,93 @@
+-- `push` from the datagram to its answer: each check's number is `did`'s, and an accepted packet is placed as `did` says.
+use mathlib.Core.Path.{_≡_, refl, sym, ap, _∙_}
+use mathlib.Core.Bool.{true}
+use mathlib.Core.List.{List, []}
+use Prim.Native.Nat.{ℕ, _≤_}
+use native.Mathlib.Omega.{arith}
+use lib.ListN.{length}
+use borrow.Author.Tests.{eq-eqb, ne-eqb}
+use Rattle.rtp.specs.declared.opt.Opt.the-variants.{Some}
+use Rattle.refusals.specs.Refusals.{orElse}
+use Rattle.refusals.proofs.Laws.{orElse-first, orElse-second}
+use Rattle.durations.specs.Seconds.{largest}
+use Rattle.rtp_packet.specs.declared.RtpPacket.{RtpPacket}
+use Rattle.rtp_packet.specs.Header.{payloadOf}
+use Rattle.rtp_packet.specs.Datagram.{LARGEST-PAYLOAD, datagramRefusal, packetOf}
+use Rattle.model.specs.Records.{Entry, State}
+use Rattle.model.specs.Push.{mediaEntry, mediaPlace, afterMedia}
+use Rattle.model.specs.Storage.{Stored, arrivalWord, parse, write}
+use Rattle.model.specs.Calls as Calls
+use Rattle.model.specs.Calls.{Answer, media, answered, taken, outputOf, outputAfter}
+use Rattle.model.specs.Table.{refusal, callRefusal, mediaRefusal, clockRefusal, sessionSound, sessionRefusal}
+use Rattle.model.specs.Did.{Done, did, accepted, turnedBack}
+use Rattle.model.proofs.Laid.{parse-entries, parse-gaps}
+use Rattle.entries.specs.declared.Entry as Row
+use Rattle.entries.specs.Entries.{entry, Incoming}
+use Rattle.session.specs.declared.push.Place as Code
+use Rattle.session.specs.Place.{place}
+use Rattle.push.specs.Media.{Counts, Fit, entryOf, packetRefusal, placed, placedAnswer, didPlace, didPacket}
+use Rattle.storage.proofs.Settled.{refused-is, settled-of}
+use Rattle.push.proofs.Turned.{assoc}
+
+pub counts-are : (m : Stored) → Counts (m .session) (parse m)
+unfolding parse
+counts-are m = record { queue = refl; entries = parse-entries m; gaps = parse-gaps m }
+
+pub incoming-of : (e : Row.Entry) (payload : List ℕ) (instant : ℕ) → e .size ≡ length payload → e .arrival ≡ Some instant → instant ≤ largest → length payload ≤ LARGEST-PAYLOAD → Incoming e payload
+unfolding arrivalWord
+incoming-of e payload instant size came h fit = record { size = size; fits = fit; arrival = rw came (omega arith) }
+
+-- ---- an entry at its place
+
+module _ (instant : ℕ) (e : Row.Entry) (payload : List ℕ) (p : Code.Place) (m : Stored) (at : place p ≡ mediaPlace (parse m) (e .number)) where
+  pub fit-of : (m2 : Stored) → sessionSound m ≡ true → m2 ≡ write (parse m) → packetRefusal instant (entry e payload) (place p) (parse m) ≡ 0 → Incoming e payload → Fit instant e payload p m2
+  fit-of m2 h w z i =
+      let k = settled-of m m2 h w in
+      record {
+        settled = k .0;
+        stands = at ∙ ap (λ (t : State). mediaPlace t (e .number)) (sym (k .1));
+        accepted = ap (packetRefusal instant (entry e payload) (place p)) (k .1) ∙ z;
+        incoming = i;
+      }
+
+  pub place-refused : (k : ℕ) → k ≡ packetRefusal instant (entry e payload) (place p) (parse m) → (k ≡ 0 → ⊥) → didPacket instant (entry e payload) m ≡ record { answer = Calls.refused k; stored = m; output = [] }
+  unfolding didPacket didPlace
+  place-refused k hk h = rw (← at, ← hk, ne-eqb k 0 h)
+
+  pub place-accepted : (m2 after : Stored) (a : Answer) → sessionSound m ≡ true → m2 ≡ write (parse m) → packetRefusal instant (entry e payload) (place p) (parse m) ≡ 0 → a ≡ placedAnswer (place p) → after ≡ write (placed instant (entry e payload) (place p) (parse m2))
+      → didPacket instant (entry e payload) m ≡ record { answer = a; stored = after; output = [] }
+  unfolding didPacket didPlace
+  place-accepted m2 after a h w z ha hw = rw (← at, eq-eqb (packetRefusal instant (entry e payload) (place p) (parse m)) 0 z, ha, hw, settled-of m m2 h w .1)
+
+-- ---- the datagram
+
+module _ (instant : ℕ) (d : List ℕ) (m : Stored) (r : ℕ) (e : r ≡ orElse (sessionRefusal m) (clockRefusal (m .session .queue) instant)) where
+  abbrev datagram : ℕ
+  datagram = datagramRefusal (m .session .queue .config .senders .pt) (m .session .queue .config .senders .ssrc .0) LARGEST-PAYLOAD d
+
+  abbrev later : ℕ
+  later = packetRefusal instant (mediaEntry instant d (parse m .queue)) (mediaPlace (parse m) (mediaEntry instant d (parse m .queue) .number)) (parse m)
+
+  chain : refusal (media instant d) m ≡ orElse r (orElse datagram later)
+  unfolding refusal callRefusal mediaRefusal packetRefusal parse
+  chain = assoc (sessionRefusal m) (clockRefusal (m .session .queue) instant) _ ∙ rw (← e)
+
+  pub media-early : (r ≡ 0 → ⊥) → did (media instant d) m ≡ record { answer = Calls.refused r; stored = m; output = [] }
+  unfolding outputOf
+  media-early h = refused-is (media instant d) m r (sym (chain ∙ orElse-first r _ h)) h
+
+  module _ (z : r ≡ 0) where
+    pub media-unread : (k : ℕ) → datagram ≡ k → (k ≡ 0 → ⊥) → did (media instant d) m ≡ record { answer = Calls.refused k; stored = m; output = [] }
+    unfolding outputOf
+    media-unread k hk h = refused-is (media instant d) m k (sym (chain ∙ orElse-second r _ z ∙ ap (λ (j : ℕ). orElse j later) hk ∙ orElse-first k later h)) h
+
+    read-as : datagram ≡ 0 → did (media instant d) m ≡ didPacket instant (mediaEntry instant d (parse m .queue)) m
+    unfolding did accepted turnedBack answered taken outputOf outputAfter afterMedia placed placedAnswer didPlace didPacket
+    read-as hk = rw (chain ∙ orElse-second r _ z ∙ orElse-second datagram later hk)
+
+    same-entry : mediaEntry instant d (parse m .queue) ≡ entryOf instant (m .session .queue) (packetOf d) (payloadOf d)
+    unfolding mediaEntry entryOf packetOf parse
+    same-entry = refl
+
+    pub media-read : (p : RtpPacket) (payload : List ℕ) (done : Done) → datagram ≡ 0 → p ≡ packetOf d → payload ≡ payloadOf d → didPacket instant (entryOf instant (m .session .queue) p payload) m ≡ done → did (media instant d) m ≡ done
+    media-read p payload done hk hp hb h = read-as hk ∙ rw (same-entry, ← hp, ← hb) h

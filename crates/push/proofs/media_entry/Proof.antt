@@ -1,0 +1,20 @@
+-- `media_entry`: field by field.
+use Rattle.push.specs.Media.{entryOf}
+use mathlib.Core.Path.{refl}
+use borrow.Author.Needs.{needs}
+use Rattle.push.proofs.media_entry.Statement.{statement}
+use Rattle.push.proofs.media_entry.Tie as tie
+
+extended-number-requires : tie.Need-extended-number-requires
+extended-number-requires c κs = search needs
+
+extended-timestamp-requires : tie.Need-extended-timestamp-requires
+extended-timestamp-requires c κs = search needs
+
+returns : tie.Need-returns
+unfolding entryOf
+returns c = (λ payload. rw (c .extended-timestamp .ensures, c .before .extended-number .ensures), (refl, refl))
+
+pub media-entry-spec : {M : Type 1} → statement M
+media-entry-spec =
+    tie.close (tie.spec extended-number-requires extended-timestamp-requires returns)

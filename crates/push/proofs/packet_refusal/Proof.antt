@@ -1,0 +1,25 @@
+-- `packet_refusal`: 14 and 12 as the definition joins them.
+use Rattle.push.proofs.Media.{packet-refusal-is}
+use borrow.Author.Needs.{needs}
+use Rattle.push.proofs.packet_refusal.Statement.{statement}
+use Rattle.push.proofs.packet_refusal.Tie as tie
+
+waits-requires : tie.Need-waits-requires
+waits-requires c κs = search needs
+
+counts-requires : tie.Need-counts-requires
+counts-requires c κs = search needs
+
+gaps-requires : tie.Need-gaps-requires
+gaps-requires c κs = search needs
+
+or-else-requires : tie.Need-or-else-requires
+or-else-requires c κs = search needs
+
+returns : tie.Need-returns
+returns c = let s = c .before .before .before .before .before .before .before .before .before in
+    packet-refusal-is (s .args .s) (s .args .e) (s .args .place) _ _ _ _ (c .or-else .ensures) (c .before .before .before .waits .ensures) (c .before .before .counts .ensures) (c .before .gaps .ensures)
+
+pub packet-refusal-spec : {M : Type 1} → statement M
+packet-refusal-spec =
+    tie.close (tie.spec waits-requires counts-requires gaps-requires or-else-requires returns)

@@ -1,0 +1,117 @@
+-- `push` meets its contract: the checks before the datagram, the datagram's own, and then `push_packet`.
+use Rattle.storage.proofs.Settled.{passed-16}
+use Rattle.push.proofs.Turned.{payload-is}
+use Rattle.push.proofs.Pushing.{media-early, media-unread, media-read}
+use Rattle.push.specs.Answers.{mediaAnswer}
+use Rattle.storage.specs.Stored.{stored}
+use Rattle.model.proofs.SoundQueue.{clock-of}
+use Rattle.rtp_packet.proofs.Bounds.{payload-fits}
+use Rattle.rtp_packet.proofs.Answers.{parsed-packet, parsed-refused}
+use Rattle.rtp_packet.specs.Datagram.{LARGEST-PAYLOAD}
+use Rattle.refusals.proofs.Laws.{orElse-none}
+use native.Mathlib.Omega.{arith}
+use lib.ListN.{length}
+use mathlib.Core.Path.{sym, ap, _∙_}
+use borrow.Author.Needs.{needs}
+use Rattle.push.proofs.push.Statement.{statement}
+use Rattle.push.proofs.push.Tie as tie
+
+session-and-clock-requires : tie.Need-session-and-clock-requires
+session-and-clock-requires c κs = search needs
+
+same-length : tie.Need-same-length
+same-length c = search needs
+
+same-length-2 : tie.Need-same-length-2
+same-length-2 c = search needs
+
+same-length-3 : tie.Need-same-length-3
+same-length-3 c = search needs
+
+same-length-4 : tie.Need-same-length-4
+same-length-4 c = search needs
+
+returns : tie.Need-returns
+unfolding mediaAnswer
+returns c = let s = c .before .before .before .before .before .before .before .before .before .before .before in
+    media-early (s .args .now) (s .args .datagram .now) (stored (s .args .session) (s .args .entries .now) (s .args .payloads .now) (s .args .gaps .now) (s .args .remembered .now)) _ (c .before .session-and-clock .ensures) (c .if1 .taken)
+
+parse-media-requires : tie.Need-parse-media-requires
+parse-media-requires c κs = search needs
+
+enum-known-number : tie.Need-enum-known-number
+enum-known-number c = search needs
+
+enum-known-p : tie.Need-enum-known-p
+enum-known-p c = search needs
+
+payload-requires : tie.Need-payload-requires
+payload-requires c κs = search needs
+
+push-packet-requires : tie.Need-push-packet-requires
+push-packet-requires c κs = let s = c .before .before .before .before .before .before .before .before .before .before .before .before .before .before .before .before .before .before .before .before .before .before .before in
+    let z = orElse-none _ _ (sym (c .before .before .before .before .before .before .before .before .before .before .before .before .before .session-and-clock .ensures) ∙ c .before .before .before .before .before .before .before .before .before .before .before .before .if1 .left) in
+    let x = parsed-packet _ _ LARGEST-PAYLOAD (s .args .datagram .now) _ (sym (c .before .before .before .before .before .before .before .before .parse-media .ensures) ∙ c .before .before .before .before .before .before .p .given .1) in
+    let l = ap length (payload-is (s .args .datagram .now) _ _ (c .before .before .before .before .payload .ensures) (x .1)) in
+    (passed-16 (stored (s .args .session) (s .args .entries .now) (s .args .payloads .now) (s .args .gaps .now) (s .args .remembered .now)) (z .0), (clock-of (s .args .session .queue) (s .args .now) (z .1) .1, omega (arith, l, payload-fits _ _ LARGEST-PAYLOAD (s .args .datagram .now) (x .0))))
+
+same-length-5 : tie.Need-same-length-5
+same-length-5 c = search needs
+
+same-length-6 : tie.Need-same-length-6
+same-length-6 c = search needs
+
+same-length-7 : tie.Need-same-length-7
+same-length-7 c = search needs
+
+same-length-8 : tie.Need-same-length-8
+same-length-8 c = search needs
+
+returns-2 : tie.Need-returns-2
+unfolding mediaAnswer
+returns-2 c = let s = c .before .before .before .before .before .before .before .before .before .before .before .before .before .before .before .before .before .before in
+    let x = parsed-refused _ _ LARGEST-PAYLOAD _ (s .args .datagram .now) (sym (c .before .before .before .parse-media .ensures) ∙ c .before .number .given .1) in
+    media-unread (s .args .now) (s .args .datagram .now) (stored (s .args .session) (s .args .entries .now) (s .args .payloads .now) (s .args .gaps .now) (s .args .remembered .now)) _ (c .before .before .before .before .before .before .before .before .session-and-clock .ensures) (c .before .before .before .before .before .before .before .if1 .left) _ (x .0) (x .1)
+
+same-length-9 : tie.Need-same-length-9
+same-length-9 c = search needs
+
+same-length-10 : tie.Need-same-length-10
+same-length-10 c = search needs
+
+same-length-11 : tie.Need-same-length-11
+same-length-11 c = search needs
+
+same-length-12 : tie.Need-same-length-12
+same-length-12 c = search needs
+
+returns-3 : tie.Need-returns-3
+returns-3 c = let s = c .before .before .before .before .before .before .before .before .before .before .before .before .before .before .before .before .before .before .before .before .before .before .before .before .before .before .before .before .before .before .before .before in
+    let x = parsed-packet _ _ LARGEST-PAYLOAD (s .args .datagram .now) _ (sym (c .before .before .before .before .before .before .before .before .before .before .before .before .before .before .before .before .before .parse-media .ensures) ∙ c .before .before .before .before .before .before .before .before .before .before .before .before .before .before .before .p .given .1) in
+    media-read (s .args .now) (s .args .datagram .now) (stored (s .args .session) (s .args .entries .now) (s .args .payloads .now) (s .args .gaps .now) (s .args .remembered .now)) _ (c .before .before .before .before .before .before .before .before .before .before .before .before .before .before .before .before .before .before .before .before .before .before .session-and-clock .ensures) (c .before .before .before .before .before .before .before .before .before .before .before .before .before .before .before .before .before .before .before .before .before .if1 .left) _ _ _ (x .0) (x .1) (payload-is (s .args .datagram .now) _ _ (c .before .before .before .before .before .before .before .before .before .before .before .before .before .payload .ensures) (x .1)) (c .before .before .before .before .before .before .before .before .push-packet .ensures)
+
+pub push-spec : {M : Type 1} → statement M
+push-spec =
+    tie.close
+    (tie.spec
+    session-and-clock-requires
+    same-length
+    same-length-2
+    same-length-3
+    same-length-4
+    returns
+    parse-media-requires
+    enum-known-number
+    enum-known-p
+    payload-requires
+    push-packet-requires
+    same-length-5
+    same-length-6
+    same-length-7
+    same-length-8
+    returns-2
+    same-length-9
+    same-length-10
+    same-length-11
+    same-length-12
+    returns-3)

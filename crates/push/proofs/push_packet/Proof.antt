@@ -1,0 +1,87 @@
+-- `push_packet` meets its contract: turned back under 14 or 12, or placed in the settled storage.
+use Rattle.push.proofs.Pushing.{counts-are, incoming-of, fit-of, place-refused, place-accepted}
+use Rattle.storage.proofs.Settled.{checked}
+use Rattle.push.specs.Answers.{mediaAnswer}
+use Rattle.storage.specs.Stored.{stored}
+use Rattle.model.specs.Storage.{parse}
+use Rattle.model.specs.Push.{mediaPlace}
+use native.Mathlib.Omega.{arith}
+use mathlib.Core.Path.{sym, _∙_}
+use borrow.Author.Needs.{needs}
+use Rattle.push.proofs.push_packet.Statement.{statement}
+use Rattle.push.proofs.push_packet.Tie as tie
+
+media-entry-requires : tie.Need-media-entry-requires
+media-entry-requires c κs = search needs
+
+media-place-requires : tie.Need-media-place-requires
+unfolding parse
+media-place-requires c κs = let s = c .before .before .before .before .before .before .before .before in
+    let k = checked (stored (s .args .s) (s .args .entries .now) (s .args .payloads .now) (s .args .gaps .now) (s .args .remembered .now)) (s .pre .0) in
+    (k .room .gaps, k .lists .gaps-ascend)
+
+packet-refusal-requires : tie.Need-packet-refusal-requires
+unfolding parse
+packet-refusal-requires c κs = let s = c .before .before .before .before .before .before .before .before .before in
+    let k = checked (stored (s .args .s) (s .args .entries .now) (s .args .payloads .now) (s .args .gaps .now) (s .args .remembered .now)) (s .pre .0) in
+    (k .sound .queue-in .counters-in .bytes-fit, omega (arith, c .before .before .media-entry .ensures .1 .0, s .pre .1 .1), k .counts .gaps)
+
+same-length : tie.Need-same-length
+same-length c = search needs
+
+returns : tie.Need-returns
+unfolding mediaPlace parse mediaAnswer
+returns c = let s = c .before .before .before .before .before .before .before .before .before .before .before in
+    let m = (stored (s .args .s) (s .args .entries .now) (s .args .payloads .now) (s .args .gaps .now) (s .args .remembered .now)) in
+    let e = c .before .before .before .before .media-entry in
+    let k = c .before .packet-refusal .ensures (s .args .instant) (s .args .payload .now) (parse m) (counts-are m) (sym (e .ensures .1 .0)) in
+    rw (← e .ensures .0 (s .args .payload .now)) (place-refused (s .args .instant) (e .result) (s .args .payload .now) _ m (c .before .before .media-place .ensures) _ k (c .if1 .taken))
+
+settle-requires : tie.Need-settle-requires
+settle-requires c κs = let s = c .before .before .before .before .before .before .before .before .before .before .before .before .before .before .before in s .pre .0
+
+place-packet-requires : tie.Need-place-packet-requires
+unfolding mediaPlace parse
+place-packet-requires c κs = let s = c .before .before .before .before .before .before .before .before .before .before .before .before .before .before .before .before .before .before .before .before .before .before .before .before .before .before .before .before in
+    let m = (stored (s .args .s) (s .args .entries .now) (s .args .payloads .now) (s .args .gaps .now) (s .args .remembered .now)) in
+    let e = c .before .before .before .before .before .before .before .before .before .before .before .before .before .before .before .before .before .before .before .before .before .media-entry in
+    let k = c .before .before .before .before .before .before .before .before .before .before .before .before .before .before .before .before .before .before .packet-refusal .ensures (s .args .instant) (s .args .payload .now) (parse m) (counts-are m) (sym (e .ensures .1 .0)) in
+    fit-of (s .args .instant) (e .result) (s .args .payload .now) _ m (c .before .before .before .before .before .before .before .before .before .before .before .before .before .before .before .before .before .before .before .media-place .ensures) _ (s .pre .0) (c .before .before .before .before .before .before .before .before .before .before .before .before .settle .ensures) (sym k ∙ c .before .before .before .before .before .before .before .before .before .before .before .before .before .before .before .before .before .if1 .left) (incoming-of (e .result) (s .args .payload .now) (s .args .instant) (e .ensures .1 .0) (e .ensures .1 .1) (s .pre .1 .0) (s .pre .1 .1))
+
+same-length-2 : tie.Need-same-length-2
+same-length-2 c = search needs
+
+same-length-3 : tie.Need-same-length-3
+same-length-3 c = search needs
+
+same-length-4 : tie.Need-same-length-4
+same-length-4 c = search needs
+
+same-length-5 : tie.Need-same-length-5
+same-length-5 c = search needs
+
+returns-2 : tie.Need-returns-2
+unfolding mediaPlace parse
+returns-2 c = let s = c .before .before .before .before .before .before .before .before .before .before .before .before .before .before .before .before .before .before .before .before .before .before .before .before .before .before .before .before .before .before .before .before .before .before .before in
+    let m = (stored (s .args .s) (s .args .entries .now) (s .args .payloads .now) (s .args .gaps .now) (s .args .remembered .now)) in
+    let e = c .before .before .before .before .before .before .before .before .before .before .before .before .before .before .before .before .before .before .before .before .before .before .before .before .before .before .before .before .media-entry in
+    let k = c .before .before .before .before .before .before .before .before .before .before .before .before .before .before .before .before .before .before .before .before .before .before .before .before .before .packet-refusal .ensures (s .args .instant) (s .args .payload .now) (parse m) (counts-are m) (sym (e .ensures .1 .0)) in
+    let p = c .before .before .before .before .before .before .place-packet .ensures in
+    rw (← e .ensures .0 (s .args .payload .now)) (place-accepted (s .args .instant) (e .result) (s .args .payload .now) _ m (c .before .before .before .before .before .before .before .before .before .before .before .before .before .before .before .before .before .before .before .before .before .before .before .before .before .before .media-place .ensures) _ _ _ (s .pre .0) (c .before .before .before .before .before .before .before .before .before .before .before .before .before .before .before .before .before .before .before .settle .ensures) (sym k ∙ c .before .before .before .before .before .before .before .before .before .before .before .before .before .before .before .before .before .before .before .before .before .before .before .before .if1 .left) (p .0) (p .1))
+
+pub push-packet-spec : {M : Type 1} → statement M
+push-packet-spec =
+    tie.close
+    (tie.spec
+    media-entry-requires
+    media-place-requires
+    packet-refusal-requires
+    same-length
+    returns
+    settle-requires
+    place-packet-requires
+    same-length-2
+    same-length-3
+    same-length-4
+    same-length-5
+    returns-2)

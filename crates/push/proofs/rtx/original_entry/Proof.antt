@@ -1,0 +1,20 @@
+-- `original_entry`: field by field.
+use Rattle.push.specs.Repair.{originalEntry}
+use mathlib.Core.Path.{refl}
+use borrow.Author.Needs.{needs}
+use Rattle.push.proofs.rtx.original_entry.Statement.{statement}
+use Rattle.push.proofs.rtx.original_entry.Tie as tie
+
+extended-number-requires : tie.Need-extended-number-requires
+extended-number-requires c κs = search needs
+
+extended-timestamp-requires : tie.Need-extended-timestamp-requires
+extended-timestamp-requires c κs = search needs
+
+returns : tie.Need-returns
+unfolding originalEntry
+returns c = (λ payload. rw (c .extended-timestamp .ensures, c .before .extended-number .ensures), (refl, refl))
+
+pub original-entry-spec : {M : Type 1} → statement M
+original-entry-spec =
+    tie.close (tie.spec extended-number-requires extended-timestamp-requires returns)

@@ -1,0 +1,126 @@
+-- `push_rtx` meets its contract: the checks before the datagram, the datagram's own, and then `push_repair`.
+use Rattle.push.proofs.Repairing.{repair-early, repair-unread, repair-read}
+use Rattle.storage.proofs.Settled.{passed-16}
+use Rattle.push.proofs.Turned.{payload-is}
+use Rattle.push.specs.Answers.{repairAnswer}
+use Rattle.storage.specs.Stored.{stored}
+use Rattle.rtp_packet.proofs.Bounds.{payload-fits}
+use Rattle.rtp_packet.proofs.Answers.{parsed-packet, parsed-refused}
+use Rattle.rtp_packet.specs.Datagram.{LARGEST-REPAIR}
+use Rattle.refusals.specs.Refusals.{orElse}
+use Rattle.refusals.proofs.Laws.{orElse-none}
+use lib.ListN.{length}
+use native.Mathlib.Omega.{arith}
+use mathlib.Core.Path.{sym, ap, _∙_}
+use borrow.Author.Needs.{needs}
+use Rattle.push.proofs.rtx.push_rtx.Statement.{statement}
+use Rattle.push.proofs.rtx.push_rtx.Tie as tie
+
+session-and-clock-requires : tie.Need-session-and-clock-requires
+session-and-clock-requires c κs = search needs
+
+rtx-requires : tie.Need-rtx-requires
+rtx-requires c κs = search needs
+
+or-else-requires : tie.Need-or-else-requires
+or-else-requires c κs = search needs
+
+same-length : tie.Need-same-length
+same-length c = search needs
+
+same-length-2 : tie.Need-same-length-2
+same-length-2 c = search needs
+
+same-length-3 : tie.Need-same-length-3
+same-length-3 c = search needs
+
+same-length-4 : tie.Need-same-length-4
+same-length-4 c = search needs
+
+returns : tie.Need-returns
+unfolding repairAnswer
+returns c = let s = c .before .before .before .before .before .before .before .before .before .before .before .before .before in
+    repair-early (s .args .now) (s .args .datagram .now) (stored (s .args .session) (s .args .entries .now) (s .args .payloads .now) (s .args .gaps .now) (s .args .remembered .now)) _ _ (c .before .before .before .session-and-clock .ensures) (c .before .or-else .ensures ∙ ap (orElse _) (c .before .before .rtx .ensures)) (c .if1 .taken)
+
+parse-repair-requires : tie.Need-parse-repair-requires
+parse-repair-requires c κs = search needs
+
+enum-known-k : tie.Need-enum-known-k
+enum-known-k c = search needs
+
+enum-known-p : tie.Need-enum-known-p
+enum-known-p c = search needs
+
+payload-requires : tie.Need-payload-requires
+payload-requires c κs = search needs
+
+push-repair-requires : tie.Need-push-repair-requires
+push-repair-requires c κs = let s = c .before .before .before .before .before .before .before .before .before .before .before .before .before .before .before .before .before .before .before .before .before .before .before .before .before in
+    let z = orElse-none _ _ (sym (c .before .before .before .before .before .before .before .before .before .before .before .before .before .or-else .ensures) ∙ c .before .before .before .before .before .before .before .before .before .before .before .before .if1 .left) in
+    let y = orElse-none _ _ (sym (c .before .before .before .before .before .before .before .before .before .before .before .before .before .before .before .session-and-clock .ensures) ∙ z .0) in
+    let x = parsed-packet _ _ LARGEST-REPAIR (s .args .datagram .now) _ (sym (c .before .before .before .before .before .before .before .before .parse-repair .ensures) ∙ c .before .before .before .before .before .before .p .given .1) in
+    let l = ap length (payload-is (s .args .datagram .now) _ _ (c .before .before .before .before .payload .ensures) (x .1)) in
+    (passed-16 (stored (s .args .session) (s .args .entries .now) (s .args .payloads .now) (s .args .gaps .now) (s .args .remembered .now)) (y .0), omega (arith, l, payload-fits _ _ LARGEST-REPAIR (s .args .datagram .now) (x .0)))
+
+same-length-5 : tie.Need-same-length-5
+same-length-5 c = search needs
+
+same-length-6 : tie.Need-same-length-6
+same-length-6 c = search needs
+
+same-length-7 : tie.Need-same-length-7
+same-length-7 c = search needs
+
+same-length-8 : tie.Need-same-length-8
+same-length-8 c = search needs
+
+returns-2 : tie.Need-returns-2
+unfolding repairAnswer
+returns-2 c = let s = c .before .before .before .before .before .before .before .before .before .before .before .before .before .before .before .before .before .before .before .before in
+    let x = parsed-refused _ _ LARGEST-REPAIR _ (s .args .datagram .now) (sym (c .before .before .before .parse-repair .ensures) ∙ c .before .k .given .1) in
+    repair-unread (s .args .now) (s .args .datagram .now) (stored (s .args .session) (s .args .entries .now) (s .args .payloads .now) (s .args .gaps .now) (s .args .remembered .now)) _ _ (c .before .before .before .before .before .before .before .before .before .before .session-and-clock .ensures) (c .before .before .before .before .before .before .before .before .or-else .ensures ∙ ap (orElse _) (c .before .before .before .before .before .before .before .before .before .rtx .ensures)) (c .before .before .before .before .before .before .before .if1 .left) _ (x .0) (x .1)
+
+same-length-9 : tie.Need-same-length-9
+same-length-9 c = search needs
+
+same-length-10 : tie.Need-same-length-10
+same-length-10 c = search needs
+
+same-length-11 : tie.Need-same-length-11
+same-length-11 c = search needs
+
+same-length-12 : tie.Need-same-length-12
+same-length-12 c = search needs
+
+returns-3 : tie.Need-returns-3
+returns-3 c = let s = c .before .before .before .before .before .before .before .before .before .before .before .before .before .before .before .before .before .before .before .before .before .before .before .before .before .before .before .before .before .before .before .before .before .before in
+    let x = parsed-packet _ _ LARGEST-REPAIR (s .args .datagram .now) _ (sym (c .before .before .before .before .before .before .before .before .before .before .before .before .before .before .before .before .before .parse-repair .ensures) ∙ c .before .before .before .before .before .before .before .before .before .before .before .before .before .before .before .p .given .1) in
+    repair-read (s .args .now) (s .args .datagram .now) (stored (s .args .session) (s .args .entries .now) (s .args .payloads .now) (s .args .gaps .now) (s .args .remembered .now)) _ _ (c .before .before .before .before .before .before .before .before .before .before .before .before .before .before .before .before .before .before .before .before .before .before .before .before .session-and-clock .ensures) (c .before .before .before .before .before .before .before .before .before .before .before .before .before .before .before .before .before .before .before .before .before .before .or-else .ensures ∙ ap (orElse _) (c .before .before .before .before .before .before .before .before .before .before .before .before .before .before .before .before .before .before .before .before .before .before .before .rtx .ensures)) (c .before .before .before .before .before .before .before .before .before .before .before .before .before .before .before .before .before .before .before .before .before .if1 .left) _ _ _ (x .0) (x .1) (payload-is (s .args .datagram .now) _ _ (c .before .before .before .before .before .before .before .before .before .before .before .before .before .payload .ensures) (x .1)) (c .before .before .before .before .before .before .before .before .push-repair .ensures)
+
+pub push-rtx-spec : {M : Type 1} → statement M
+push-rtx-spec =
+    tie.close
+    (tie.spec
+    session-and-clock-requires
+    rtx-requires
+    or-else-requires
+    same-length
+    same-length-2
+    same-length-3
+    same-length-4
+    returns
+    parse-repair-requires
+    enum-known-k
+    enum-known-p
+    payload-requires
+    push-repair-requires
+    same-length-5
+    same-length-6
+    same-length-7
+    same-length-8
+    returns-2
+    same-length-9
+    same-length-10
+    same-length-11
+    same-length-12
+    returns-3)

@@ -1,0 +1,394 @@
+// `push` (000): a media packet, from the datagram's bytes to its place in the storage.
+ghost use mathlib.Core.Path.{_≡_};
+ghost use mathlib.Core.Bool.{true, cond};
+ghost use mathlib.Core.List.{List, []};
+ghost use Prim.Native.Nat.{ℕ, _+_, _*_, _-_, _≤_, _<_};
+ghost use lib.ListN.{length};
+ghost use Rattle.words.specs.Blocks.{laid};
+ghost use Rattle.words.specs.Order.{ascends};
+ghost use Rattle.model.specs.Records as Records;
+ghost use Rattle.model.specs.Rules as Rules;
+ghost use Rattle.model.specs.Push as Push;
+ghost use Rattle.model.specs.Storage.{GAP-WORDS, gapWords, gapsOf, parse, write};
+ghost use Rattle.durations.specs.Seconds.{largest};
+ghost use Rattle.rtp_packet.specs.Datagram.{LARGEST-PAYLOAD};
+ghost use Rattle.model.specs.Calls.{media};
+ghost use Rattle.model.specs.Table.{sessionSound};
+ghost use Rattle.packet_gaps.specs.Gaps.{GapsIn};
+ghost use Rattle.entries.specs.Entries.{entry};
+ghost use Rattle.session.specs.Place as Spec;
+ghost use Rattle.push.specs.Answers.{mediaAnswer};
+ghost use Rattle.storage.specs.Stored.{stored, Does};
+ghost use Rattle.push.specs.Media.{Takes, Counts, Fit, entryOf, packetRefusal, placed, placedAnswer, didPacket};
+use entries::Entry;
+use model::LastReceived;
+use model::Queue;
+use model::Session;
+use rtp::ExtendedRtpTimestamp;
+use rtp::ExtendedSequenceNumber;
+use rtp::opt::Opt;
+use rtp_packet::Parsed;
+use rtp_packet::RtpPacket;
+use session::push::Place;
+
+pub mod rtx;
+
+pub enum MediaAnswer {
+    Queued,
+    Dropped,
+    Refused(u64),
+}
+
+pub struct Pushed {
+    pub answer: MediaAnswer,
+    pub session: Session,
+}
+
+// 001's MAX_GAP_SIZE.
+const MAX_GAP_SIZE: u64 = 1000;
+
+// Where the number x stands, after the highest so far, h.
+fn place_after(h: u64, gaps: &[u64], n: usize, x: u64) -> Place
+    requires { ⌜ GAP-WORDS * n ≤ length (now gaps) ⌝ }
+    requires { ⌜ ascends (Records.gapNumbers (gapsOf (now gaps) n)) ≡ true ⌝ }
+    ensures { λ r. ⌜ Spec.place r ≡ Rules.placeOf (Opt.Some h) (gapsOf (now (gaps .entry)) n) x ⌝ }
+{
+    if h < x {
+        if x - h <= MAX_GAP_SIZE {
+            return Place::Near(h);
+        }
+        return Place::Far(h);
+    }
+    if packet_gaps::contains(gaps, n, x) {
+        return Place::Fills;
+    }
+    Place::Other
+}
+
+fn place_of(last: LastReceived, gaps: &[u64], n: usize, x: u64) -> Place
+    requires { ⌜ GAP-WORDS * n ≤ length (now gaps) ⌝ }
+    requires { ⌜ ascends (Records.gapNumbers (gapsOf (now gaps) n)) ≡ true ⌝ }
+    ensures { λ r. ⌜ Spec.place r ≡ Rules.placeOf (Records.highestOf last) (gapsOf (now (gaps .entry)) n) x ⌝ }
+{
+    match last {
+        LastReceived::None => Place::First,
+        LastReceived::Some(r) => place_after(r.number.0, gaps, n, x),
+    }
+}
+
+// Where a media packet's number stands.
+fn media_place(q: Queue, gaps: &[u64], n: usize, x: u64) -> Place
+    requires { ⌜ GAP-WORDS * n ≤ length (now gaps) ⌝ }
+    requires { ⌜ ascends (Records.gapNumbers (gapsOf (now gaps) n)) ≡ true ⌝ }
+    ensures { λ r. ⌜ Spec.place r ≡ cond (Push.passed (q .config .settings .mode) (Records.returnedOf (q .returned)) x) Rules.other (Rules.placeOf (Records.highestOf (q .last)) (gapsOf (now (gaps .entry)) n) x) ⌝ }
+{
+    if session::passed(q, ExtendedSequenceNumber(x)) {
+        return Place::Other;
+    }
+    let last = q.last;
+    place_of(last, gaps, n, x)
+}
+
+// 001's `report_received`: the gaps after a packet at this place; the answer is how many there are.
+fn gaps_after(gaps: &mut [u64], n: usize, place: Place, x: u64, instant: u64) -> usize
+    requires { ⌜ GapsIn (now gaps) n ⌝ }
+    requires { ⌜ ascends (Records.gapNumbers (gapsOf (now gaps) n)) ≡ true ⌝ }
+    requires { ⌜ Takes (now gaps) n x (Spec.place place) ⌝ }
+    ensures { λ r. ⌜ r ≡ length (Rules.gapsAfter instant x (Spec.place place) (gapsOf (now (gaps .entry)) n)) ⌝ }
+    ensures { λ _. ⌜ now (gaps .exit) ≡ laid gapWords (length (now (gaps .entry))) (Rules.gapsAfter instant x (Spec.place place) (gapsOf (now (gaps .entry)) n)) ⌝ }
+{
+    match place {
+        Place::Near(h) => {
+            packet_gaps::open_between(gaps, n, h, x, instant);
+            n + (x - h - 1) as usize
+        }
+        Place::Far(_) => {
+            packet_gaps::clear(gaps);
+            0
+        }
+        Place::Fills => {
+            packet_gaps::remove(gaps, n, x);
+            n - 1
+        }
+        Place::First => n,
+        Place::Other => n,
+    }
+}
+
+// Leaves the gaps from the number x on; the answer is how many there are.
+fn gaps_from(gaps: &mut [u64], n: usize, x: u64) -> usize
+    requires { ⌜ GapsIn (now gaps) n ⌝ }
+    requires { ⌜ ascends (Records.gapNumbers (gapsOf (now gaps) n)) ≡ true ⌝ }
+    ensures { λ r. ⌜ r ≡ length (Rules.gapsFrom x (gapsOf (now (gaps .entry)) n)) ⌝ }
+    ensures { λ _. ⌜ now (gaps .exit) ≡ laid gapWords (length (now (gaps .entry))) (Rules.gapsFrom x (gapsOf (now (gaps .entry)) n)) ⌝ }
+{
+    let k = packet_gaps::count_below(gaps, n, x);
+    packet_gaps::drain(gaps, n, k);
+    n - k
+}
+
+// The entry that a packet becomes, without its payload.
+fn media_entry(q: Queue, instant: u64, p: RtpPacket, size: usize) -> Entry
+    ensures { λ r. ⌜ ((payload : List ℕ) → entry r payload ≡ entryOf instant q p payload) ⌝ }
+    ensures { λ r. ⌜ (r .size ≡ size) × (r .arrival ≡ Opt.Some instant) ⌝ }
+{
+    let number = session::extended_number(q, p.sequence_number);
+    let timestamp = session::extended_timestamp(q, p.timestamp);
+    Entry {
+        arrival: Opt::Some(instant),
+        timestamp: timestamp.0,
+        number: number.0,
+        marker: p.marker,
+        size,
+    }
+}
+
+// 14, then 12, in a session that check 16 passes.
+fn packet_refusal(s: Session, e: Entry, place: Place) -> u64
+    requires { ⌜ (s .queue .counters .bytes ≤ largest) × (e .size ≤ LARGEST-PAYLOAD) × (s .gaps ≤ s .queue .config .settings .«max_gaps») ⌝ }
+    ensures { λ r. ⌜ ((instant : ℕ) (payload : List ℕ) (st : Records.State) → Counts s st → length payload ≡ e .size → r ≡ packetRefusal instant (entry e payload) (Spec.place place) st) ⌝ }
+{
+    let q = s.queue;
+    let config = q.config;
+    let settings = config.settings;
+    let full = settings.max_entries <= s.entries;
+    let waits = session::push::waits(place);
+    let counts = session::push::counts(
+        q.counters,
+        e.timestamp,
+        e.number,
+        e.size as u64,
+        waits,
+        full,
+    );
+    let gaps = session::push::gaps(settings, s.gaps, e.number, place);
+    refusals::or_else(counts, gaps)
+}
+
+// Queues a packet that finds the queue below its depth.
+fn insert_packet(
+    s: Session,
+    entries: &mut [u64],
+    payloads: &mut [u8],
+    gaps: &mut [u64],
+    remembered: &[u64],
+    instant: u64,
+    e: Entry,
+    payload: &[u8],
+    place: Place,
+) -> Session
+    requires { ⌜ Fit instant e (now payload) place (stored s (now entries) (now payloads) (now gaps) (now remembered)) ⌝ }
+    requires { ⌜ (Rules.waits (Spec.place place) ≡ true) × (s .entries < s .queue .config .settings .«max_entries») ⌝ }
+    ensures { λ r. ⌜ stored r (now (entries .exit)) (now (payloads .exit)) (now (gaps .exit)) (now (remembered .entry)) ≡ write (placed instant (entry e (now (payload .entry))) (Spec.place place) (parse (stored s (now (entries .entry)) (now (payloads .entry)) (now (gaps .entry)) (now (remembered .entry))))) ⌝ }
+{
+    let n = s.entries;
+    let size = e.size as u64;
+    let queue = session::push::queued(s.queue, instant, e.timestamp, e.number, size, place);
+    entries::insert(entries, payloads, n, e, payload);
+    let open = gaps_after(gaps, s.gaps, place, e.number, instant);
+    Session {
+        queue,
+        entries: n + 1,
+        gaps: open,
+        remembered: s.remembered,
+    }
+}
+
+// Queues a packet that finds the queue at its depth or above: the front one is pushed out, and the gaps below it go.
+fn push_out_packet(
+    s: Session,
+    entries: &mut [u64],
+    payloads: &mut [u8],
+    gaps: &mut [u64],
+    remembered: &[u64],
+    instant: u64,
+    e: Entry,
+    payload: &[u8],
+    place: Place,
+) -> Session
+    requires { ⌜ Fit instant e (now payload) place (stored s (now entries) (now payloads) (now gaps) (now remembered)) ⌝ }
+    requires { ⌜ (Rules.waits (Spec.place place) ≡ true) × (s .queue .config .settings .«max_entries» ≤ s .entries) ⌝ }
+    ensures { λ r. ⌜ stored r (now (entries .exit)) (now (payloads .exit)) (now (gaps .exit)) (now (remembered .entry)) ≡ write (placed instant (entry e (now (payload .entry))) (Spec.place place) (parse (stored s (now (entries .entry)) (now (payloads .entry)) (now (gaps .entry)) (now (remembered .entry))))) ⌝ }
+{
+    let n = s.entries;
+    let size = e.size as u64;
+    let queued = session::push::queued(s.queue, instant, e.timestamp, e.number, size, place);
+    let front = entries::push_out(entries, payloads, n, e, payload);
+    let open = gaps_after(gaps, s.gaps, place, e.number, instant);
+    let left = gaps_from(gaps, open, front);
+    let queue = session::push::pushed_out(queued, front);
+    Session {
+        queue,
+        entries: n,
+        gaps: left,
+        remembered: s.remembered,
+    }
+}
+
+// Queues a packet that is accepted.
+fn queue_packet(
+    s: Session,
+    entries: &mut [u64],
+    payloads: &mut [u8],
+    gaps: &mut [u64],
+    remembered: &[u64],
+    instant: u64,
+    e: Entry,
+    payload: &[u8],
+    place: Place,
+) -> Session
+    requires { ⌜ Fit instant e (now payload) place (stored s (now entries) (now payloads) (now gaps) (now remembered)) ⌝ }
+    requires { ⌜ Rules.waits (Spec.place place) ≡ true ⌝ }
+    ensures { λ r. ⌜ stored r (now (entries .exit)) (now (payloads .exit)) (now (gaps .exit)) (now (remembered .entry)) ≡ write (placed instant (entry e (now (payload .entry))) (Spec.place place) (parse (stored s (now (entries .entry)) (now (payloads .entry)) (now (gaps .entry)) (now (remembered .entry))))) ⌝ }
+{
+    let config = s.queue.config;
+    let settings = config.settings;
+    if settings.max_entries <= s.entries {
+        return push_out_packet(
+            s,
+            entries,
+            payloads,
+            gaps,
+            remembered,
+            instant,
+            e,
+            payload,
+            place,
+        );
+    }
+    insert_packet(
+        s,
+        entries,
+        payloads,
+        gaps,
+        remembered,
+        instant,
+        e,
+        payload,
+        place,
+    )
+}
+
+// Drops or queues a packet that is accepted.
+fn place_packet(
+    s: Session,
+    entries: &mut [u64],
+    payloads: &mut [u8],
+    gaps: &mut [u64],
+    remembered: &[u64],
+    instant: u64,
+    e: Entry,
+    payload: &[u8],
+    place: Place,
+) -> Pushed
+    requires { ⌜ Fit instant e (now payload) place (stored s (now entries) (now payloads) (now gaps) (now remembered)) ⌝ }
+    ensures { λ r. ⌜ mediaAnswer (r .answer) ≡ placedAnswer (Spec.place place) ⌝ }
+    ensures { λ r. ⌜ stored (r .session) (now (entries .exit)) (now (payloads .exit)) (now (gaps .exit)) (now (remembered .entry)) ≡ write (placed instant (entry e (now (payload .entry))) (Spec.place place) (parse (stored s (now (entries .entry)) (now (payloads .entry)) (now (gaps .entry)) (now (remembered .entry))))) ⌝ }
+{
+    let mut session = s;
+    if !session::push::waits(place) {
+        let queue = session::push::dropped(s.queue, instant, ExtendedRtpTimestamp(e.timestamp));
+        session.queue = queue;
+        return Pushed {
+            answer: MediaAnswer::Dropped,
+            session,
+        };
+    }
+    session = queue_packet(
+        s,
+        entries,
+        payloads,
+        gaps,
+        remembered,
+        instant,
+        e,
+        payload,
+        place,
+    );
+    Pushed {
+        answer: MediaAnswer::Queued,
+        session,
+    }
+}
+
+// A media packet that no check before 14 turns back.
+fn push_packet(
+    s: Session,
+    entries: &mut [u64],
+    payloads: &mut [u8],
+    gaps: &mut [u64],
+    remembered: &mut [u64],
+    instant: u64,
+    p: RtpPacket,
+    payload: &[u8],
+) -> Pushed
+    requires { ⌜ sessionSound (stored s (now entries) (now payloads) (now gaps) (now remembered)) ≡ true ⌝ }
+    requires { ⌜ (instant ≤ largest) × (length (now payload) ≤ LARGEST-PAYLOAD) ⌝ }
+    ensures { λ r. ⌜ didPacket instant (entryOf instant (s .queue) p (now (payload .entry))) (stored s (now (entries .entry)) (now (payloads .entry)) (now (gaps .entry)) (now (remembered .entry))) ≡ record { answer = mediaAnswer (r .answer); stored = stored (r .session) (now (entries .exit)) (now (payloads .exit)) (now (gaps .exit)) (now (remembered .exit)); output = [] } ⌝ }
+{
+    let q = s.queue;
+    let e = media_entry(q, instant, p, payload.len());
+    let place = media_place(q, gaps, s.gaps, e.number);
+    let refusal = packet_refusal(s, e, place);
+    if refusal != 0 {
+        return Pushed {
+            answer: MediaAnswer::Refused(refusal),
+            session: s,
+        };
+    }
+    storage::settle(s, entries, payloads, gaps, remembered);
+    place_packet(
+        s,
+        entries,
+        payloads,
+        gaps,
+        remembered,
+        instant,
+        e,
+        payload,
+        place,
+    )
+}
+
+// A media packet, in a datagram that came at this instant.
+pub fn push(
+    session: Session,
+    entries: &mut [u64],
+    payloads: &mut [u8],
+    gaps: &mut [u64],
+    remembered: &mut [u64],
+    now: u64,
+    datagram: &[u8],
+) -> Pushed
+    ensures { λ r. ⌜ Does (media now (datagram .entry .now)) (stored session (entries .entry .now) (payloads .entry .now) (gaps .entry .now) (remembered .entry .now)) (mediaAnswer (r .answer)) (stored (r .session) (entries .exit .now) (payloads .exit .now) (gaps .exit .now) (remembered .exit .now)) [] ⌝ }
+{
+    let refusal = storage::session_and_clock(session, entries, payloads, gaps, remembered, now);
+    if refusal != 0 {
+        return Pushed {
+            answer: MediaAnswer::Refused(refusal),
+            session,
+        };
+    }
+    let q = session.queue;
+    let config = q.config;
+    let senders = config.senders;
+    match rtp_packet::parse_media(datagram, senders.pt, senders.ssrc) {
+        Parsed::Refused(number) => Pushed {
+            answer: MediaAnswer::Refused(number),
+            session,
+        },
+        Parsed::Packet(p) => {
+            let payload = rtp_packet::payload(datagram, p);
+            push_packet(
+                session,
+                entries,
+                payloads,
+                gaps,
+                remembered,
+                now,
+                p,
+                payload,
+            )
+        }
+    }
+}

@@ -1,0 +1,3 @@
+-- Laws of check 16 and of the settled storage.
+pub mod Checking
+pub mod Settled

@@ -1,0 +1,16 @@
+-- `counts_fit` meets its contract: the same tests.
+use mathlib.Core.Path.{refl}
+use Rattle.storage.specs.Check.{numbersFit}
+use borrow.Author.Needs.{needs}
+use Rattle.storage.proofs.counts_fit.Statement.{statement}
+use Rattle.storage.proofs.counts_fit.Tie as tie
+
+mul-result : tie.Need-mul-result
+mul-result c = search needs
+
+returns : tie.Need-returns
+unfolding numbersFit
+returns c = refl
+
+pub counts-fit-spec : {M : Type 1} → statement M
+counts-fit-spec = tie.close (tie.spec mul-result returns)
