@@ -94,7 +94,7 @@ pub fn first_sample(sample: u64) {
 
 pub fn sample(srtt: u64, variation: u64, sample: u64) {
     let e = RtxRtt { srtt, variation };
-    put_rtt(e.update(sample));
+    put_rtt(e.with_sample(sample));
 }
 
 pub fn resend_delay(srtt: u64, variation: u64) {

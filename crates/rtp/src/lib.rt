@@ -58,7 +58,7 @@ impl ExtendedRtpTimestamp {
     }
 }
 
-fn abs_diff(a: u64, b: u64) -> u64
+pub fn abs_diff(a: u64, b: u64) -> u64
     ensures { λ r. ⌜ r ≡ apart a b ⌝ }
 {
     if a < b { b - a } else { a - b }

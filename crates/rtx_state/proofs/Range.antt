@@ -1,17 +1,18 @@
--- srtt and variation stay at most 2 ^ 52 - 1 with samples that are, since each update is a mean of two such numbers, cut. The resend delay of such an estimate is below 2 ^ 54.
+-- srtt and variation stay at most 2 ^ 52 - 1 with samples that are, since each update is a mean of two such numbers, cut.
+-- The resend delay of such an estimate is below 2 ^ 54.
 use mathlib.Core.Path.{_≡_, refl, sym, subst}
 use mathlib.Core.Logic.{inl}
 use mathlib.Core.Bool.{Bool, false, _&&_}
-use Prim.Native.Nat.{ℕ, _+_, _-_, _*_, _/_, _≤_, _<_, _^_}
+use Prim.Native.Nat.{ℕ, _-_, _≤_, _<_, _^_}
 use native.Mathlib.Nat.{le-refl, lt-of-le-of-lt}
 use native.Mathlib.Omega.{arith}
-use lib.IntN.{pos, negsuc}
+use lib.IntN.{negsuc}
 use lib.Dec.{T, leb, leb→le, le→leb, lit≤, lit<}
 use lib.Ieee.{Float, fin, binary64, ofBits, add, mul, le, lt}
 use lib.Ieee.Fits.{and-l, and-r, and-i}
 use Rattle.float_laws.proofs.Upto.{Upto, whole-to, add-upto, mul-upto}
 use Rattle.rtp.specs.Numbers.{apart}
-use Rattle.durations.specs.Seconds.{largest, giga, asSecsF64, zero64, limit}
+use Rattle.durations.specs.Seconds.{largest, asSecsF64, zero64, limit}
 use Rattle.durations.proofs.Bound.{secs-upto, nanos-le, upto-in}
 use Rattle.rtx_state.specs.RoundTrip.{three-halves, fromFirstSample, rttUpdated, sampledRtt, nackResendDelay, rttInRange, optRttInRange}
 use Rattle.rtx_state.specs.Repair.{rtxInRange}

@@ -26,21 +26,21 @@ impl RtxRtt {
         }
     }
 
-    // 3 * variation and 7 * srtt could pass 64 bits, so each is divided in two parts.
-    pub fn update(self, sample: u64) -> RtxRtt
+    // The estimate is lent and altered here; `updated` has the numbers.
+    pub fn update(&mut self, sample: u64)
+        ensures { λ _. ⌜ now (self .exit) ≡ rttUpdated (now (self .entry)) sample ⌝ }
+        ensures { λ _. ⌜ (T (rttInRange (now (self .entry))) → sample ≤ largest → T (rttInRange (now (self .exit)))) ⌝ }
+    {
+        *self = updated(self.srtt, self.variation, sample);
+    }
+
+    // For callers that hold the estimate by value: it is lent to its update, and handed back.
+    pub fn with_sample(mut self, sample: u64) -> RtxRtt
         ensures { λ r. ⌜ r ≡ rttUpdated self sample ⌝ }
         ensures { λ r. ⌜ (T (rttInRange self) → sample ≤ largest → T (rttInRange r)) ⌝ }
     {
-        let old = self.srtt;
-        let srtt = old / 8 * 7 + old % 8 * 7 / 8 + sample / 8;
-        // From the old srtt: the variation is updated first (RFC 6298, 2.3).
-        let diff = if old < sample {
-            sample - old
-        } else {
-            old - sample
-        };
-        let variation = self.variation / 4 * 3 + self.variation % 4 * 3 / 4 + diff / 4;
-        RtxRtt { srtt, variation }
+        self.update(sample);
+        self
     }
 
     // In nanoseconds: srtt + 1.5 * variation, worked out in f64 seconds.
@@ -62,6 +62,20 @@ impl RtxRtt {
     }
 }
 
+// The numbers of `RtxRtt::update`. 3 * variation and 7 * srtt could pass 64 bits, so each is divided in two parts.
+fn updated(srtt: u64, variation: u64, sample: u64) -> RtxRtt
+    ensures { λ r. ⌜ r ≡ rttUpdated (record { srtt = srtt; variation = variation }) sample ⌝ }
+{
+    let new_srtt = srtt / 8 * 7 + srtt % 8 * 7 / 8 + sample / 8;
+    // From the srtt before: the variation is updated first (RFC 6298, 2.3).
+    let diff = rtp::abs_diff(srtt, sample);
+    let new_variation = variation / 4 * 3 + variation % 4 * 3 / 4 + diff / 4;
+    RtxRtt {
+        srtt: new_srtt,
+        variation: new_variation,
+    }
+}
+
 // No estimate before the first sample.
 pub enum OptRtt {
     None,
@@ -75,7 +89,7 @@ impl OptRtt {
     {
         match self {
             OptRtt::None => OptRtt::Some(RtxRtt::from_first_sample(sample)),
-            OptRtt::Some(rtt) => OptRtt::Some(rtt.update(sample)),
+            OptRtt::Some(rtt) => OptRtt::Some(rtt.with_sample(sample)),
         }
     }
 

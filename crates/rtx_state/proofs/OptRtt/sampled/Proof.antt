@@ -20,8 +20,8 @@ from-first-sample-requires c κs = search needs
 enum-known-self : tie.Need-enum-known-self
 enum-known-self c = search needs
 
-update-requires : tie.Need-update-requires
-update-requires c κs = search needs
+with-sample-requires : tie.Need-with-sample-requires
+with-sample-requires c κs = search needs
 
 -- the equation, and the range that follows from it
 both : (c : tie.Start) (r : OptRtt) → r ≡ sampledRtt (c .args .self) (c .args .sample) → (r ≡ sampledRtt (c .args .self) (c .args .sample)) × (T (optRttInRange (c .args .self)) → c .args .sample ≤ largest → T (optRttInRange r))
@@ -33,7 +33,7 @@ returns c = both (c .before .before .before) (Some (c .from-first-sample .result
 
 returns-2 : tie.Need-returns-2
 unfolding sampledRtt
-returns-2 c = both (c .before .before .before .before) (Some (c .update .result)) (cc)
+returns-2 c = both (c .before .before .before .before) (Some (c .with-sample .result)) (cc)
 
 pub sampled-spec : {M : Type 1} → statement M
 sampled-spec =
@@ -42,6 +42,6 @@ sampled-spec =
     enum-told
     from-first-sample-requires
     enum-known-self
-    update-requires
+    with-sample-requires
     returns
     returns-2)
