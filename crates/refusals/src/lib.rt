@@ -1,7 +1,7 @@
 // The numbers under which a call is refused: the table "Where a call is turned back" of document 01, each with its words there.
 // A refused call returns its number only; session, clock and every lent buffer are unchanged. 0 is no refusal.
 ghost use mathlib.Core.Path.{_≡_};
-ghost use Rattle.refusals.specs.Refusals.{orElse};
+ghost use Rattle.refusals.specs.Refusals.{orElse, numbers};
 
 // Opening: clock rate outside 1 to 1,000,000; D outside 1 to 1,024; G outside 999 to 4,096; a duration over 60,000,000,000; max
 // attempts outside 1 to 255; a payload type over 127.
@@ -55,6 +55,30 @@ pub const OUTPUT: u64 = 15;
 // payload over 320; an instant after the clock's; an extended value, counter, srtt or variation over 2^52 − 1; the jitter
 // record's clock rate not the setting's, jitter not from 0 to the clock rate, loss not from 0 to 1.
 pub const SESSION: u64 = 16;
+
+// The table's numbers in its order, so that a number changed here is refused here.
+pub fn numbers() -> [u64; 16]
+    ensures { λ r. ⌜ r ≡ numbers ⌝ }
+{
+    [
+        SETTINGS,
+        TRUNCATED,
+        VERSION,
+        PADDING,
+        PAYLOAD_TOO_LARGE,
+        PAYLOAD_TYPE,
+        SSRC,
+        CLOCK,
+        NO_RTX,
+        NO_MEDIA,
+        NO_ORIGINAL_NUMBER,
+        GAPS_FULL,
+        ENTRIES_FULL,
+        COUNT,
+        OUTPUT,
+        SESSION,
+    ]
+}
 
 // The first of two refusals: "Checks run downwards within a call."
 pub fn or_else(first: u64, second: u64) -> u64
