@@ -18,7 +18,14 @@ use Rattle.model.specs.Did.{did, accepted}
 use Rattle.model.proofs.SoundQueue.{clock-of}
 use Rattle.storage.specs.Stored.{Does}
 use Rattle.storage.proofs.Settled.{assoc, refused-is, accepted-is, passed-16}
-use Rattle.poll.specs.Steps.{earlyRefusal}
+
+-- 16, 15, 8
+unfoldable pub earlyRefusal : ℕ → List ℕ → ℕ → Stored → ℕ
+earlyRefusal needed out now m = orElse (sessionRefusal m) (orElse (outputRefusal needed out) (clockRefusal (m .session .queue) now))
+
+pub early-is : (m : Stored) (needed now : ℕ) (out : List ℕ) (r a b : ℕ) → r ≡ orElse a b → a ≡ sessionRefusal m → b ≡ orElse (outputRefusal needed out) (clockRefusal (m .session .queue) now) → r ≡ earlyRefusal needed out now m
+unfolding earlyRefusal
+early-is m needed now out r a b e ea eb = rw (← ea, ← eb) e
 
 module _ (m : Stored) (needed now : ℕ) (out : List ℕ) (r : ℕ) (e : r ≡ earlyRefusal needed out now m) (z : r ≡ 0) where
   none : (sessionRefusal m ≡ 0) × (outputRefusal needed out ≡ 0) × (clockRefusal (m .session .queue) now ≡ 0)

@@ -32,9 +32,9 @@ use Rattle.packet_gaps.specs.Gaps.{GapsIn, instantsFit, Small, dueBy, nackedBy,
 use Rattle.packet_gaps.proofs.Model.{due-keep, due-nacked}
 use Rattle.storage.specs.Stored.{stored, Does}
 use Rattle.storage.specs.Settled.{Settled}
-use Rattle.poll.specs.Steps.{Leaves, Nacking, dueLeft, nacksRefusal, earlyRefusal, drainedSession}
+use Rattle.poll.specs.Steps.{Leaves, Nacking, dueLeft, nacksRefusal, drainedSession}
 use Rattle.storage.proofs.Settled.{checked, ready, holding, settled-of, settings-in, instants}
-use Rattle.poll.proofs.Early.{is-sound, is-room, is-timely, early-refused, late-refused, goes-on}
+use Rattle.poll.proofs.Early.{earlyRefusal, is-sound, is-room, is-timely, early-refused, late-refused, goes-on}
 use Rattle.poll.proofs.Holding.{leaves-write, lost-in}
 use Rattle.poll.proofs.Parted.{not-given-up}
 use Rattle.poll.proofs.Drained.{left-few, gaps-left, same-long, left-in}

@@ -28,8 +28,8 @@ use Rattle.storage.specs.Stored.{stored, Does}
 use Rattle.storage.specs.Settled.{Settled}
 use Rattle.storage.proofs.Settled.{checked, holding, settled-of, settings-in, last-in}
 use Rattle.poll.specs.declared.Due.{Due}
-use Rattle.poll.specs.Steps.{Handing, Leaves, handsOut, lostUnder, dueFor, earlyRefusal, drainedSession}
-use Rattle.poll.proofs.Early.{is-sound, is-room, is-timely, early-refused, late-refused, goes-on}
+use Rattle.poll.specs.Steps.{Handing, Leaves, handsOut, lostUnder, dueFor, drainedSession}
+use Rattle.poll.proofs.Early.{earlyRefusal, is-sound, is-room, is-timely, early-refused, late-refused, goes-on}
 use Rattle.poll.proofs.Holding.{leaves-write, lost-in}
 use Rattle.poll.proofs.Drained.{gaps-left, drained-lengths, drained-written, drained-parsed, drained-handing}
 use Rattle.poll.proofs.Fronts.{front-is, first-is, hands-some}

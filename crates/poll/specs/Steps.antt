@@ -17,7 +17,7 @@ use Rattle.model.specs.Rules.{MAX-LOST-NACKED, due}
 use Rattle.model.specs.Lists.{keep, some?, every?}
 use Rattle.model.specs.Poll.{lose, givenUp, notGivenUp, ready, front, lostBelow, estimateOf}
 use Rattle.model.specs.Storage.{Storage, Stored, REMEMBERED-WORDS, entryWords, payloadBytes, gapWords, rememberedWords, gapsOf, write}
-use Rattle.model.specs.Table.{sessionRefusal, outputRefusal, clockRefusal, countRefusal, nackCountRefusal}
+use Rattle.model.specs.Table.{countRefusal, nackCountRefusal}
 use Rattle.packet_gaps.specs.Gaps.{GapsIn, instantsFit, Small, full}
 use Rattle.entries.specs.Entries.{EntriesIn}
 use Rattle.lost_nacked.specs.Remembered.{RememberedIn}
@@ -63,10 +63,6 @@ unfoldable pub dueFor : ℕ → State → Due
 dueFor now s =
     let set = s .queue .config .settings in
     record { given = length (givenUp set (set .mode) (s .gaps)); «goes_out» = handsOut now (s .queue) (s .entries); lost = length (lostUnder (set .mode) (front now s (s .entries)) (s .gaps)) }
-
--- 16, 15, 8
-unfoldable pub earlyRefusal : ℕ → List ℕ → ℕ → Stored → ℕ
-earlyRefusal needed out now m = orElse (sessionRefusal m) (orElse (outputRefusal needed out) (clockRefusal (m .session .queue) now))
 
 -- the gaps that are NACKed once those given up are out
 unfoldable pub dueLeft : ℕ → Queue → List Gap → List Gap

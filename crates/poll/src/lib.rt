@@ -9,6 +9,7 @@ ghost use Rattle.words.specs.Blocks.{laid};
 ghost use Rattle.words.specs.Order.{ascends};
 ghost use Rattle.words.specs.Words.{over};
 ghost use Rattle.durations.specs.Seconds.{largest};
+ghost use Rattle.refusals.specs.Refusals.{orElse};
 ghost use Rattle.config.specs.Valid.{settingsValid};
 ghost use Rattle.model.specs.Records.{gapNumbers};
 ghost use Rattle.model.specs.Rules.{MAX-LOST-NACKED, rememberedAfter};
@@ -19,14 +20,14 @@ ghost use Rattle.packet_gaps.specs.Gaps.{GapsIn};
 ghost use Rattle.lost_nacked.specs.Remembered.{RememberedIn};
 ghost use Rattle.model.specs.Calls as Calls;
 ghost use Rattle.model.specs.Table as Table;
-ghost use Rattle.model.specs.Table.{outputRefusal};
+ghost use Rattle.model.specs.Table.{outputRefusal, clockRefusal};
 ghost use Rattle.model.specs.Did.{accepted};
 ghost use Rattle.model.specs.Calls.{delayIn, handed, payloadOut};
 ghost use Rattle.entries.specs.Entries.{entry};
 ghost use Rattle.poll.specs.Answers as Answers;
 ghost use Rattle.storage.specs.Stored.{storage, stored, Does};
 ghost use Rattle.storage.specs.Settled.{Settled};
-ghost use Rattle.poll.specs.Steps.{Handing, Leaves, handsOut, drainedSession, lostUnder, dueFor, earlyRefusal};
+ghost use Rattle.poll.specs.Steps.{Handing, Leaves, handsOut, drainedSession, lostUnder, dueFor};
 use config::RtpInboundQueueMode;
 use config::Settings;
 use entries::Entry;
@@ -82,23 +83,13 @@ fn output_refusal(needed: usize, room: usize) -> u64
     0
 }
 
-// 16, 15, 8
-pub(crate) fn early_refusal(
-    s: Session,
-    entries: &[u64],
-    payloads: &[u8],
-    gaps: &[u64],
-    remembered: &[u64],
-    instant: u64,
-    needed: usize,
-    room: usize,
-) -> u64
-    ensures { λ r. ⌜ ((out : List ℕ) → length out ≡ room → r ≡ earlyRefusal needed out instant (stored s (now (entries .entry)) (now (payloads .entry)) (now (gaps .entry)) (now (remembered .entry)))) ⌝ }
+// 15, then 8
+pub(crate) fn output_and_clock(q: Queue, instant: u64, needed: usize, room: usize) -> u64
+    ensures { λ r. ⌜ ((out : List ℕ) → length out ≡ room → r ≡ orElse (outputRefusal needed out) (clockRefusal q instant)) ⌝ }
 {
-    let damaged = storage::session(s, entries, payloads, gaps, remembered);
     let short = output_refusal(needed, room);
-    let late = session::check::clock(s.queue, instant);
-    refusals::or_else(damaged, refusals::or_else(short, late))
+    let late = session::check::clock(q, instant);
+    refusals::or_else(short, late)
 }
 
 // How many gaps at the front are given up.
@@ -332,16 +323,9 @@ pub fn poll(
 ) -> Polled
     ensures { λ r. ⌜ Does (Calls.poll now (out .entry .now)) (stored session (entries .entry .now) (payloads .entry .now) (gaps .entry .now) (remembered .entry .now)) (Answers.pollAnswer (r .answer)) (stored (r .session) (entries .exit .now) (payloads .exit .now) (gaps .exit .now) (remembered .exit .now)) (out .exit .now) ⌝ }
 {
-    let early = early_refusal(
-        session,
-        entries,
-        payloads,
-        gaps,
-        remembered,
-        now,
-        320,
-        out.len(),
-    );
+    let damaged = storage::session(session, entries, payloads, gaps, remembered);
+    let late = output_and_clock(session.queue, now, 320, out.len());
+    let early = refusals::or_else(damaged, late);
     if early != 0 {
         return Polled {
             answer: PollAnswer::Refused(early),
