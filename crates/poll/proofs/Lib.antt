@@ -1,4 +1,5 @@
 -- Laws of `poll` and `poll_nack`.
+pub mod Early
 pub mod Holding
 pub mod Parted
 pub mod Fronts

@@ -2,37 +2,39 @@
 use mathlib.Core.Path.{_≡_, refl, sym, ap, _∙_}
 use mathlib.Core.Bool.{Bool, true, false}
 use mathlib.Core.List.{List, [], _∷_, map}
-use Prim.Native.Nat.{ℕ, zero, suc, _+_, _≤_}
+use Prim.Native.Nat.{ℕ, zero, suc, _+_, _*_, _^_, _≤_, _<_}
 use native.Mathlib.Omega.{arith}
-use lib.Dec.{ltb}
+use lib.Dec.{T}
 use lib.ListN.{length, drop, length-map}
-use borrow.Author.Tests.{lt-ltb, le-ltb, ltb-false}
 use Rattle.words.specs.Words.{over}
 use Rattle.words.specs.Blocks.{laid}
 use Rattle.words.proofs.Ordered.{and-right}
-use Rattle.refusals.specs.Refusals.{OUTPUT, COUNT}
+use Rattle.refusals.specs.Refusals.{COUNT, orElse}
 use Rattle.refusals.proofs.Laws.{orElse-first, orElse-second, orElse-none, passes}
+use Rattle.durations.specs.Seconds.{largest}
 use Rattle.config.specs.declared.Settings.{Settings}
 use Rattle.config.specs.declared.NackTimings.{NackTimings}
 use Rattle.config.specs.Timings.{nackTimings}
+use Rattle.config.specs.Valid.{settingsValid}
+use Rattle.rtx_state.specs.RoundTrip.{optRttInRange}
 use Rattle.model.specs.declared.Queue.{Queue}
 use Rattle.model.specs.declared.Session.{Session}
 use Rattle.model.specs.Lists.{keep, some?, every?}
 use Rattle.model.specs.Records.{Gap, State}
 use Rattle.model.specs.Rules.{nackDue}
 use Rattle.model.specs.Poll.{lose, givenUp, notGivenUp, drained, estimateOf, dueGaps, nackNumbers, nackAll, afterPollNack}
-use Rattle.model.specs.Storage.{Stored, gapWords, gapsOf, parse, write}
-use Rattle.model.specs.Calls.{Answer, pollNack, taken, answered, outputAfter, nackAnswer}
-use Rattle.model.specs.Table.{refuseIf, outputRefusal, clockRefusal, countRefusal, nackCountRefusal, pollNackRefusal}
+use Rattle.model.specs.Storage.{Stored, GAP-WORDS, gapWords, gapsOf, parse, write}
+use Rattle.model.specs.Calls.{Answer, pollNack, refused, taken, answered, outputOf, outputAfter, nackAnswer}
+use Rattle.model.specs.Table.{refuseIf, sessionSound, outputRefusal, clockRefusal, countRefusal, nackCountRefusal, pollNackRefusal, callRefusal}
 use Rattle.model.specs.Did.{accepted}
 use Rattle.model.proofs.Laid.{length-entriesOf, length-rememberedOf}
-use Rattle.model.proofs.SoundQueue.{clock-of}
-use Rattle.packet_gaps.specs.Gaps.{GapsIn, instantsFit, dueBy, nackedBy, truncated, full}
+use Rattle.packet_gaps.specs.Gaps.{GapsIn, instantsFit, Small, dueBy, nackedBy, truncated, full}
 use Rattle.packet_gaps.proofs.Model.{due-keep, due-nacked}
-use Rattle.storage.specs.Stored.{storage, stored}
+use Rattle.storage.specs.Stored.{stored, Does}
 use Rattle.storage.specs.Settled.{Settled}
-use Rattle.poll.specs.Steps.{Leaves, Nacking, dueLeft, drainedSession}
-use Rattle.storage.proofs.Settled.{instants, holding, settings-in}
+use Rattle.poll.specs.Steps.{Leaves, Nacking, dueLeft, nacksRefusal, drainedSession}
+use Rattle.storage.proofs.Settled.{checked, ready, holding, settled-of, settings-in, instants}
+use Rattle.poll.proofs.Early.{earlyRefusal, is-sound, is-room, is-timely, early-refused, late-refused, goes-on}
 use Rattle.poll.proofs.Holding.{leaves-write, lost-in}
 use Rattle.poll.proofs.Parted.{not-given-up}
 use Rattle.poll.proofs.Drained.{left-few, gaps-left, same-long, left-in}
@@ -49,93 +51,46 @@ module _ (now : ℕ) (q : Queue) (l : List Gap) (t : NackTimings) (et : t ≡ na
   abbrev set : Settings
   set = q .config .settings
 
-  pub due-left : keep (dueBy t now) (notGivenUp set (set .mode) l) ≡ dueLeft now q l
+  due-left : keep (dueBy t now) (notGivenUp set (set .mode) l) ≡ dueLeft now q l
   unfolding dueLeft
   due-left = ap (λ (x : NackTimings). keep (dueBy x now) (notGivenUp set (set .mode) l)) et ∙ sym (due-keep set (estimateOf q) now (notGivenUp set (set .mode) l))
 
-  pub nacked-left : map (nackedBy t now) (notGivenUp set (set .mode) l) ≡ nackDue set (estimateOf q) now (notGivenUp set (set .mode) l)
+  nacked-left : map (nackedBy t now) (notGivenUp set (set .mode) l) ≡ nackDue set (estimateOf q) now (notGivenUp set (set .mode) l)
   nacked-left = ap (λ (x : NackTimings). map (nackedBy x now) (notGivenUp set (set .mode) l)) et ∙ sym (due-nacked set (estimateOf q) now (notGivenUp set (set .mode) l))
 
-  module _ (k : ℕ) (ek : k ≡ length (givenUp set (set .mode) l)) (b : Bool) (eb : b ≡ some? full (keep (dueBy t now) (drop k l))) where
-    full-left : some? full (dueLeft now q l) ≡ b
-    full-left = sym (eb ∙ ap (λ (i : ℕ). some? full (keep (dueBy t now) (drop i l))) ek ∙ ap (λ (x : List Gap). some? full (keep (dueBy t now) x)) (sym (not-given-up set (set .mode) l)) ∙ ap (some? full) due-left)
+  -- 14, where the first k gaps are given up
+  module _ (k : ℕ) (ek : k ≡ length (givenUp set (set .mode) l)) (r : ℕ) (er : r ≡ countRefusal ((q .counters .lost + k) ∷ [])) where
+    lost-is : countRefusal ((q .counters .lost + length (givenUp set (set .mode) l)) ∷ []) ≡ r
+    lost-is = sym (er ∙ ap (λ (i : ℕ). countRefusal ((q .counters .lost + i) ∷ [])) ek)
 
-    pub count-refused : b ≡ true → COUNT ≡ nackCountRefusal (dueLeft now q l)
-    unfolding nackCountRefusal refuseIf
-    count-refused z = rw (full-left, z)
+    pub lost-refused : (r ≡ 0 → ⊥) → r ≡ nacksRefusal now q l
+    unfolding nacksRefusal
+    lost-refused h = sym (rw lost-is (orElse-first r _ h))
 
-    pub count-passed : b ≡ false → 0 ≡ nackCountRefusal (dueLeft now q l)
-    unfolding nackCountRefusal refuseIf
-    count-passed z = rw (full-left, z)
+    module _ (z : r ≡ 0) (b : Bool) (eb : b ≡ some? full (keep (dueBy t now) (drop k l))) where
+      full-is : some? full (dueLeft now q l) ≡ b
+      full-is = sym (eb ∙ ap (λ (i : ℕ). some? full (keep (dueBy t now) (drop i l))) ek ∙ ap (λ (x : List Gap). some? full (keep (dueBy t now) x)) (sym (not-given-up set (set .mode) l)) ∙ ap (some? full) due-left)
 
--- ---- 15, 8, 14
+      after-lost : nacksRefusal now q l ≡ nackCountRefusal (dueLeft now q l)
+      unfolding nacksRefusal
+      after-lost = orElse-second _ _ (lost-is ∙ z)
 
-module _ (now : ℕ) (s : State) (out : List ℕ) where
-  abbrev places : ℕ
-  places = s .queue .config .settings .«max_gaps»
+      pub count-refused : b ≡ true → COUNT ≡ nacksRefusal now q l
+      unfolding nackCountRefusal refuseIf
+      count-refused f = sym (after-lost ∙ rw (full-is, f))
 
-  abbrev lost : ℕ
-  lost = s .queue .counters .lost + length (givenUp (s .queue .config .settings) (s .queue .config .settings .mode) (s .gaps))
+      pub count-passed : b ≡ false → 0 ≡ nacksRefusal now q l
+      unfolding nackCountRefusal refuseIf
+      count-passed f = sym (after-lost ∙ rw (full-is, f))
 
-  pub due-gaps : dueGaps now (drained now s) ≡ dueLeft now (s .queue) (s .gaps)
-  unfolding dueGaps drained dueLeft estimateOf lose
-  due-gaps = refl
-
-  pub nack-short : length out + 1 ≤ places → OUTPUT ≡ pollNackRefusal now out s
-  unfolding pollNackRefusal outputRefusal refuseIf
-  nack-short h = sym (rw (lt-ltb (length out) places (omega arith)) (orElse-first OUTPUT _ (λ z. omega arith)))
-
-  module _ (h : places ≤ length out) where
-    pub nack-late : (k : ℕ) → k ≡ clockRefusal (s .queue) now → (k ≡ 0 → ⊥) → k ≡ pollNackRefusal now out s
-    unfolding pollNackRefusal outputRefusal refuseIf
-    nack-late k e z = sym (rw (le-ltb (length out) places h) (orElse-second 0 _ refl ∙ rw (← e) (orElse-first k _ z)))
-
-    module _ (ec : 0 ≡ clockRefusal (s .queue) now) where
-      pub nack-lost : (k : ℕ) → k ≡ countRefusal (lost ∷ []) → (k ≡ 0 → ⊥) → k ≡ pollNackRefusal now out s
-      unfolding pollNackRefusal outputRefusal refuseIf
-      nack-lost k e z = sym (rw (le-ltb (length out) places h) (orElse-second 0 _ refl ∙ rw (← ec) (orElse-second 0 _ refl ∙ rw (← e) (orElse-first k _ z))))
-
-      pub nack-full : (k : ℕ) → 0 ≡ countRefusal (lost ∷ []) → k ≡ nackCountRefusal (dueLeft now (s .queue) (s .gaps)) → k ≡ pollNackRefusal now out s
-      unfolding pollNackRefusal outputRefusal refuseIf
-      nack-full k el e = e ∙ sym (rw (le-ltb (length out) places h) (orElse-second 0 _ refl ∙ rw (← ec) (orElse-second 0 _ refl ∙ rw (← el) (orElse-second 0 _ refl ∙ rw due-gaps))))
-
-  module _ (e : pollNackRefusal now out s ≡ 0) where
-    pub nack-room : places ≤ length out
-    unfolding pollNackRefusal outputRefusal refuseIf
-    nack-room = ltb-false (length out) places (passes (ltb (length out) places) OUTPUT 0 (omega arith) (orElse-none _ _ e .0) .0)
-
-    pub nack-clock : clockRefusal (s .queue) now ≡ 0
-    unfolding pollNackRefusal
-    nack-clock = orElse-none _ _ (orElse-none _ _ e .1) .0
-
-    pub nack-none-full : some? full (dueLeft now (s .queue) (s .gaps)) ≡ false
-    unfolding pollNackRefusal nackCountRefusal refuseIf
-    nack-none-full =
-        let f = orElse-none _ _ (orElse-none _ _ (orElse-none _ _ e .1) .1) .1 in
-        passes (some? full (dueLeft now (s .queue) (s .gaps))) COUNT 0 (omega arith) (ap nackCountRefusal (sym due-gaps) ∙ f) .0
-
--- an accepted call finds what `accept` asks for
-pub nacking : (now : ℕ) (m : Stored) (out : List ℕ) → Settled m → pollNackRefusal now out (parse m) ≡ 0 → Nacking now (m .session) (m .storage .gaps) × (m .session .gaps ≤ length out)
-unfolding parse
-nacking now m out h e =
-    let k = holding m h in
-    let c = clock-of (m .session .queue) now (nack-clock now (parse m) out e) in (
-      record {
-        gaps-in = k .gaps-in;
-        lost-fits = lost-in m (k .checked);
-        settings = settings-in m (k .checked);
-        estimate = k .checked .sound .queue-in .rtx-in .rtt-in;
-        instants = instants m (k .checked) (omega arith);
-        none-full = nack-none-full now (parse m) out e;
-      },
-      omega (arith, nack-room now (parse m) out e, k .checked .counts .gaps),
-    )
+due-gaps : (now : ℕ) (s : State) → dueGaps now (drained now s) ≡ dueLeft now (s .queue) (s .gaps)
+unfolding dueGaps drained dueLeft estimateOf lose
+due-gaps now s = refl
 
 -- ---- after `drain`
 
-module _ (now : ℕ) (s : Session) (old g : List ℕ) (h : Nacking now s old) (d : Session) (ed : d ≡ drainedSession now s (gapsOf old (s .gaps)))
-    (eg : g ≡ laid gapWords (length old) (notGivenUp (s .queue .config .settings) (s .queue .config .settings .mode) (gapsOf old (s .gaps))))
-    (t : NackTimings) (et : t ≡ nackTimings (s .queue .config .settings) (estimateOf (s .queue))) where
+module _ (now : ℕ) (s : Session) (old g : List ℕ) (given : ℕ) (t : NackTimings) (h : Nacking now s old given t) (d : Session) (ed : d ≡ drainedSession now s (gapsOf old (s .gaps)))
+    (eg : g ≡ laid gapWords (length old) (notGivenUp (s .queue .config .settings) (s .queue .config .settings .mode) (gapsOf old (s .gaps)))) where
   abbrev stay : List Gap
   stay = notGivenUp (s .queue .config .settings) (s .queue .config .settings .mode) (gapsOf old (s .gaps))
 
@@ -147,7 +102,7 @@ module _ (now : ℕ) (s : Session) (old g : List ℕ) (h : Nacking now s old) (d
   read-is = ap (gapsOf g) count-is ∙ gaps-left s old g (h .gaps-in .room) eg
 
   due-is : keep (dueBy t now) (gapsOf g (d .gaps)) ≡ dueLeft now (s .queue) (gapsOf old (s .gaps))
-  due-is = ap (keep (dueBy t now)) read-is ∙ due-left now (s .queue) (gapsOf old (s .gaps)) t et
+  due-is = ap (keep (dueBy t now)) read-is ∙ due-left now (s .queue) (gapsOf old (s .gaps)) t (h .timings-are)
 
   pub left-held : GapsIn g (d .gaps)
   left-held = rw count-is (left-in s old g (h .gaps-in .room) eg)
@@ -172,7 +127,7 @@ module _ (now : ℕ) (s : Session) (old g : List ℕ) (h : Nacking now s old) (d
       e
       ∙ ap (λ (n : ℕ). laid gapWords n (map (nackedBy t now) (gapsOf g (d .gaps)))) (same-long s old g (h .gaps-in .room) eg)
       ∙ ap (λ (l : List Gap). laid gapWords (length old) (map (nackedBy t now) l)) read-is
-      ∙ ap (laid gapWords (length old)) (nacked-left now (s .queue) (gapsOf old (s .gaps)) t et)
+      ∙ ap (laid gapWords (length old)) (nacked-left now (s .queue) (gapsOf old (s .gaps)) t (h .timings-are))
 
   pub left-out : (out o : List ℕ) → o ≡ over (map truncated (keep (dueBy t now) (gapsOf g (d .gaps)))) out → o ≡ over (map truncated (dueLeft now (s .queue) (gapsOf old (s .gaps)))) out
   left-out out o e = e ∙ ap (λ (l : List Gap). over (map truncated l) out) due-is
@@ -207,9 +162,9 @@ module _ (now : ℕ) (m : Stored) (h : Settled m) (out : List ℕ) where
 
   due-numbers : map truncated (dueGaps now (drained now (parse m))) ≡ map truncated (dueLeft now (m .session .queue) gaps)
   unfolding parse
-  due-numbers = ap (map truncated) (due-gaps now (parse m) out)
+  due-numbers = ap (map truncated) (due-gaps now (parse m))
 
-  pub nack-accepted : (d : Session) (a : Answer) (g o : List ℕ)
+  nack-accepted : (d : Session) (a : Answer) (g o : List ℕ)
       → d ≡ drainedSession now (m .session) gaps
       → a ≡ nackAnswer (map truncated (dueLeft now (m .session .queue) gaps))
       → g ≡ laid gapWords (length (m .storage .gaps)) (nackDue set′ (estimateOf (m .session .queue)) now (notGivenUp set′ (set′ .mode) gaps))
@@ -224,3 +179,92 @@ module _ (now : ℕ) (m : Stored) (h : Settled m) (out : List ℕ) where
       ∙ ap (λ (x : Stored). record { answer = nackAnswer (map truncated (dueLeft now (m .session .queue) gaps)); stored = x; output = over (map truncated (dueLeft now (m .session .queue) gaps)) out }) (sym w)
       ∙ ap (λ (x : Answer). record { answer = x; stored = after; output = over (map truncated (dueLeft now (m .session .queue) gaps)) out }) (sym ea)
       ∙ ap (λ (x : List ℕ). record { answer = a; stored = after; output = x }) (sym eo)
+
+-- an accepted call finds what `accept` asks for
+module _ (now : ℕ) (m : Stored) (h : sessionSound m ≡ true) (e p g r : List ℕ) (w : stored (m .session) e p g r ≡ write (parse m)) where
+  abbrev q′ : Queue
+  q′ = m .session .queue
+
+  nacking : (given : ℕ) (t : NackTimings)
+      → q′ .clock ≤ largest
+      → given ≡ length (givenUp (q′ .config .settings) (q′ .config .settings .mode) (parse m .gaps))
+      → t ≡ nackTimings (q′ .config .settings) (estimateOf q′)
+      → Small t
+      → nacksRefusal now q′ (parse m .gaps) ≡ 0
+      → Nacking now (m .session) g given t
+  unfolding nacksRefusal nackCountRefusal refuseIf
+  nacking given t c eg et small z =
+      let k = ready m h e p g r w in
+      let set = q′ .config .settings in
+      record {
+        gaps-in = k .gaps-in;
+        given-are = eg ∙ ap (λ (l : List Gap). length (givenUp set (set .mode) l)) (sym (k .gaps-are));
+        timings-are = et;
+        small = small;
+        lost-fits = lost-in m (k .checked);
+        instants = ap (every? instantsFit) (k .gaps-are) ∙ instants m (k .checked) c;
+        none-full = ap (λ (l : List Gap). some? full (dueLeft now q′ l)) (k .gaps-are) ∙ passes (some? full (dueLeft now q′ (parse m .gaps))) COUNT 0 (omega arith) (orElse-none _ _ z .1) .0;
+      }
+
+module _ (now : ℕ) (m : Stored) (out : List ℕ) where
+  abbrev q : Queue
+  q = m .session .queue
+
+  abbrev places : ℕ
+  places = q .config .settings .«max_gaps»
+
+  abbrev listed : List Gap
+  listed = gapsOf (m .storage .gaps) (m .session .gaps)
+
+  checks : callRefusal (pollNack now out) (parse m) ≡ orElse (outputRefusal places out) (orElse (clockRefusal q now) (nacksRefusal now q listed))
+  unfolding callRefusal pollNackRefusal nacksRefusal dueGaps drained dueLeft estimateOf lose parse
+  checks = refl
+
+  module _ (r : ℕ) (e : r ≡ earlyRefusal places out now m) where
+    pub nack-early : (r ≡ 0 → ⊥) → Does (pollNack now out) m (refused r) m out
+    unfolding outputOf
+    nack-early n = early-refused (pollNack now out) m places now out (nacksRefusal now q listed) checks r e n
+
+    module _ (z : r ≡ 0) where
+      pub nack-sound : sessionSound m ≡ true
+      nack-sound = is-sound m places now out r e z
+
+      pub nack-room : GAP-WORDS * m .session .gaps ≤ length (m .storage .gaps)
+      nack-room = checked m nack-sound .room .gaps
+
+      pub nack-timed : T (settingsValid (q .config .settings)) × T (optRttInRange (q .rtx .rtt))
+      unfolding parse
+      nack-timed = let k = checked m nack-sound in (settings-in m k, k .sound .queue-in .rtx-in .rtt-in)
+
+      clock-fits : q .clock ≤ largest
+      clock-fits = omega (arith, is-timely m places now out r e z)
+
+      pub nack-bounded : (every? instantsFit listed ≡ true) × (q .counters .lost + m .session .gaps < 2 ^ 64)
+      unfolding parse
+      nack-bounded = let k = checked m nack-sound in (instants m k clock-fits, lost-in m k)
+
+      module _ (b : ℕ) (eb : b ≡ nacksRefusal now q listed) where
+        pub nack-late : (b ≡ 0 → ⊥) → Does (pollNack now out) m (refused b) m out
+        unfolding outputOf
+        nack-late n = late-refused (pollNack now out) m places now out (nacksRefusal now q listed) checks r e z b eb n
+
+        -- the storage that is settled
+        module _ (n : b ≡ 0) (e′ p g r′ : List ℕ) (w : stored (m .session) e′ p g r′ ≡ write (parse m)) where
+          pub nack-taken : (given : ℕ) (t : NackTimings) → given ≡ length (givenUp (q .config .settings) (q .config .settings .mode) listed) → t ≡ nackTimings (q .config .settings) (estimateOf q) → Small t
+              → Nacking now (m .session) g given t × (m .session .gaps ≤ length out)
+          unfolding parse
+          nack-taken given t eg et small =
+              let k = checked m nack-sound in
+              (nacking now m nack-sound e′ p g r′ w given t clock-fits eg et small (sym eb ∙ n), omega (arith, is-room m places now out r e z, k .counts .gaps))
+
+          pub nack-done : (d : Session) (a : Answer) (g′ o : List ℕ)
+              → d ≡ drainedSession now (m .session) (gapsOf g (m .session .gaps))
+              → a ≡ nackAnswer (map truncated (dueLeft now q (gapsOf g (m .session .gaps))))
+              → g′ ≡ laid gapWords (length g) (nackDue (q .config .settings) (estimateOf q) now (notGivenUp (q .config .settings) (q .config .settings .mode) (gapsOf g (m .session .gaps))))
+              → o ≡ over (map truncated (dueLeft now q (gapsOf g (m .session .gaps)))) out
+              → Does (pollNack now out) m a (stored d e′ p g′ r′) o
+          nack-done d a g′ o hd ha hg ho =
+              let k = settled-of m (stored (m .session) e′ p g r′) nack-sound w in
+              goes-on (pollNack now out) m places now out (nacksRefusal now q listed) checks r e z b eb n
+              ∙ ap (accepted (pollNack now out)) (sym (k .1))
+              ∙ nack-accepted now (stored (m .session) e′ p g r′) (k .0) out d a g′ o hd ha hg ho

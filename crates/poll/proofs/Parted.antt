@@ -15,6 +15,8 @@ use Rattle.model.specs.declared.Session.{Session}
 use Rattle.model.specs.Records.{Gap, gapNumbers, withClock}
 use Rattle.model.specs.Rules.{tried}
 use Rattle.model.specs.Poll.{lose, givenUp, notGivenUp, lostBelow, leftFrom}
+use Rattle.model.specs.Storage.{gapsOf}
+use Rattle.model.proofs.Laid.{length-gapsOf}
 use Rattle.packet_gaps.proofs.Model.{below-parts, leading-front}
 use Rattle.poll.specs.Steps.{drainedSession}
 
@@ -33,6 +35,9 @@ module _ (set : Settings) where
 
   pub length-not-given-up : (mode : RtpInboundQueueMode) (l : List Gap) → length (notGivenUp set mode l) ≡ length l - length (givenUp set mode l)
   length-not-given-up mode l = ap length (not-given-up mode l) ∙ length-drop (length (givenUp set mode l)) l
+
+pub given-few : (q : Queue) (words : List ℕ) (n k : ℕ) → k ≡ length (givenUp (q .config .settings) (q .config .settings .mode) (gapsOf words n)) → k ≤ n
+given-few q words n k e = omega (arith, e, given-up-le (q .config .settings) (q .config .settings .mode) (gapsOf words n), length-gapsOf words n)
 
 -- ---- below the one handed out
 

@@ -1,85 +1,173 @@
--- What `poll` does to a settled session: after `drain` nothing goes out, or the first entry does.
-use mathlib.Core.Path.{_≡_, sym, ap, _∙_}
-use mathlib.Core.Bool.{Bool, true, false}
+-- What `poll` does to a settled session: after `drain` nothing goes out, or the first entry does; and the call whole.
+use mathlib.Core.Path.{_≡_, refl, sym, ap, _∙_}
+use mathlib.Core.Bool.{true, false}
 use mathlib.Core.List.{List, [], _∷_}
-use Prim.Native.Nat.{ℕ, _*_}
+use Prim.Native.Nat.{ℕ, _+_, _*_, _^_, _≤_, _<_}
 use native.Mathlib.Omega.{arith}
+use lib.Dec.{T}
 use lib.ListN.{length, take, drop}
 use Rattle.words.specs.Words.{over}
 use Rattle.words.specs.Blocks.{laid}
+use Rattle.words.specs.Order.{ascends}
 use Rattle.words.proofs.Over.{over-nil}
+use Rattle.durations.specs.Seconds.{largest}
+use Rattle.refusals.specs.Refusals.{orElse}
+use Rattle.rtp_packet.specs.Datagram.{LARGEST-PAYLOAD}
+use Rattle.config.specs.Valid.{settingsValid}
 use Rattle.model.specs.declared.Session.{Session}
-use Rattle.model.specs.Records.{Entry}
-use Rattle.model.specs.Poll.{lose, notGivenUp, drained, handOut, afterPoll}
-use Rattle.model.specs.Storage.{Stored, ENTRY-WORDS, PAYLOAD-BYTES, entryOf, entriesOf, gapsOf, gapWords, parse, write}
-use Rattle.model.specs.Calls.{Answer, poll, nothing, taken, answered, outputAfter, handed, packetOf, payloadOut}
-use Rattle.model.specs.Did.{accepted}
-use Rattle.model.proofs.Laid.{length-entriesOf}
-use Rattle.storage.specs.Stored.{storage, stored}
+use Rattle.model.specs.Records.{Entry, gapNumbers}
+use Rattle.model.specs.Poll.{lose, givenUp, notGivenUp, drained, front, handOut, afterPoll}
+use Rattle.model.specs.Valid.{lastSound}
+use Rattle.model.specs.Storage.{Stored, ENTRY-WORDS, PAYLOAD-BYTES, GAP-WORDS, entryOf, entriesOf, gapsOf, gapWords, parse, write}
+use Rattle.model.specs.Calls.{Answer, poll, nothing, refused, taken, answered, outputOf, outputAfter, handed, packetOf, payloadOut}
+use Rattle.model.specs.Table.{sessionSound, outputRefusal, clockRefusal, countRefusal, lostWith, pollRefusal, callRefusal}
+use Rattle.model.specs.Did.{Done, did, accepted}
+use Rattle.model.proofs.Laid.{length-entriesOf, parse-gaps}
+use Rattle.packet_gaps.specs.Gaps.{GapsIn}
+use Rattle.storage.specs.Stored.{stored, Does}
 use Rattle.storage.specs.Settled.{Settled}
-use Rattle.poll.specs.Steps.{Handing, Leaves, handsOut, drainedSession}
-use Rattle.poll.proofs.Holding.{leaves-write}
-use Rattle.poll.proofs.Drained.{drained-lengths, drained-written, drained-parsed, drained-handing}
+use Rattle.storage.proofs.Settled.{checked, holding, settled-of, settings-in, last-in}
+use Rattle.poll.specs.declared.Due.{Due}
+use Rattle.poll.specs.Steps.{Handing, Leaves, handsOut, lostUnder, dueFor, drainedSession}
+use Rattle.poll.proofs.Early.{earlyRefusal, is-sound, is-room, is-timely, early-refused, late-refused, goes-on}
+use Rattle.poll.proofs.Holding.{leaves-write, lost-in}
+use Rattle.poll.proofs.Drained.{gaps-left, drained-lengths, drained-written, drained-parsed, drained-handing}
 use Rattle.poll.proofs.Fronts.{front-is, first-is, hands-some}
+use Rattle.poll.proofs.Losing.{same-below, due-counts, due-few}
 
 -- the first entry, where there is one
 unfoldable firstOf : Stored → Entry
 firstOf m = entryOf (take ENTRY-WORDS (drop (ENTRY-WORDS * 0) (m .storage .entries))) (take PAYLOAD-BYTES (m .storage .payloads))
 
-module _ (now : ℕ) (m : Stored) (h : Settled m) (out g : List ℕ) (s : Session)
-    (es : s ≡ drainedSession now (m .session) (gapsOf (m .storage .gaps) (m .session .gaps)))
-    (eg : g ≡ laid gapWords (length (m .storage .gaps)) (notGivenUp (m .session .queue .config .settings) (m .session .queue .config .settings .mode) (gapsOf (m .storage .gaps) (m .session .gaps))))
-    (b : Bool) (eb : b ≡ handsOut now (m .session .queue) (entriesOf (m .storage .entries) (m .storage .payloads) (m .session .entries))) where
-  -- after `drain`
-  abbrev after : Stored
-  after = stored s (m .storage .entries) (m .storage .payloads) g (m .storage .remembered)
+-- ---- from `drain` to the answer
 
-  is-written : after ≡ write (drained now (parse m))
-  is-written = rw es (drained-written now m h g eg)
+module _ (now : ℕ) (m : Stored) (h : Settled m) (due : Due) (ed : due ≡ dueFor now (parse m)) where
+  pub drains : GapsIn (m .storage .gaps) (m .session .gaps)
+      × (due .given ≡ length (givenUp (m .session .queue .config .settings) (m .session .queue .config .settings .mode) (gapsOf (m .storage .gaps) (m .session .gaps)))
+      × (m .session .queue .counters .lost + m .session .gaps < 2 ^ 64))
+  unfolding dueFor parse
+  drains =
+      let k = holding m h in
+      (k .gaps-in, (ap (λ (d : Due). d .given) ed, lost-in m (k .checked)))
 
-  is-parsed : parse after ≡ drained now (parse m)
-  is-parsed = rw es (drained-parsed now m h g eg)
+  eb : due .«goes_out» ≡ handsOut now (m .session .queue) (entriesOf (m .storage .entries) (m .storage .payloads) (m .session .entries))
+  unfolding dueFor parse
+  eb = ap (λ (d : Due). d .«goes_out») ed
 
-  pub nothing-out : b ≡ false → accepted (poll now out) (parse m) ≡ record { answer = nothing; stored = after; output = out }
-  unfolding accepted answered taken outputAfter afterPoll handOut handed payloadOut parse
-  nothing-out z = rw (front-is now (parse m) (parse m .entries) b eb, z, over-nil out) (ap (λ (x : Stored). record { answer = nothing; stored = x; output = out }) (sym is-written))
+  module _ (out g : List ℕ) (s : Session)
+      (es : s ≡ drainedSession now (m .session) (gapsOf (m .storage .gaps) (m .session .gaps)))
+      (eg : g ≡ laid gapWords (length (m .storage .gaps)) (notGivenUp (m .session .queue .config .settings) (m .session .queue .config .settings .mode) (gapsOf (m .storage .gaps) (m .session .gaps)))) where
+    -- after `drain`
+    abbrev after : Stored
+    after = stored s (m .storage .entries) (m .storage .payloads) g (m .storage .remembered)
 
-  module _ (z : b ≡ true) where
-    pub some : m .session .entries ≡ 0 → ⊥
-    unfolding parse
-    some n = hands-some now (parse m) (parse m .entries) (sym eb ∙ z) (length-entriesOf (m .storage .entries) (m .storage .payloads) (m .session .entries) ∙ n)
+    is-written : after ≡ write (drained now (parse m))
+    is-written = rw es (drained-written now m h g eg)
 
-    pub is-handing : Handing after
-    is-handing = let n = some in rw es (drained-handing now m h g eg (omega arith))
+    is-parsed : parse after ≡ drained now (parse m)
+    is-parsed = rw es (drained-parsed now m h g eg)
 
-    first : take 1 (entriesOf (m .storage .entries) (m .storage .payloads) (m .session .entries)) ≡ firstOf m ∷ []
-    unfolding firstOf
-    first = first-is (m .storage .entries) (m .storage .payloads) (m .session .entries) some
+    pub nothing-out : due .«goes_out» ≡ false → accepted (poll now out) (parse m) ≡ record { answer = nothing; stored = after; output = out }
+    unfolding accepted answered taken outputAfter afterPoll handOut handed payloadOut parse
+    nothing-out z = rw (front-is now (parse m) (parse m .entries) (due .«goes_out») eb, z, over-nil out) (ap (λ (x : Stored). record { answer = nothing; stored = x; output = out }) (sym is-written))
 
-    same-entries : s .entries ≡ m .session .entries
-    unfolding drainedSession
-    same-entries = ap (λ (d : Session). d .entries) es
+    module _ (z : due .«goes_out» ≡ true) where
+      pub some : m .session .entries ≡ 0 → ⊥
+      unfolding parse
+      some n = hands-some now (parse m) (parse m .entries) (sym eb ∙ z) (length-entriesOf (m .storage .entries) (m .storage .payloads) (m .session .entries) ∙ n)
 
-    first-after : take 1 (entriesOf (m .storage .entries) (m .storage .payloads) (s .entries)) ≡ firstOf m ∷ []
-    first-after = rw same-entries first
+      pub is-handing : Handing after
+      is-handing = let n = some in rw es (drained-handing now m h g eg (omega arith))
 
-    handed-written : (m′ : Stored) → Leaves (handOut (firstOf m ∷ []) (drained now (parse m))) (after .storage) m′ → m′ ≡ write (handOut (firstOf m ∷ []) (drained now (parse m)))
-    unfolding handOut drained lose parse
-    handed-written m′ l = leaves-write (after .storage) (handOut (firstOf m ∷ []) (drained now (parse m))) (drained-lengths now m h g eg) m′ l
+      first : take 1 (entriesOf (m .storage .entries) (m .storage .payloads) (m .session .entries)) ≡ firstOf m ∷ []
+      unfolding firstOf
+      first = first-is (m .storage .entries) (m .storage .payloads) (m .session .entries) some
 
-    same-answer : handed (s .queue) (firstOf m ∷ []) ≡ handed (m .session .queue) (firstOf m ∷ [])
-    unfolding handed packetOf drainedSession lose
-    same-answer = rw es
+      same-entries : s .entries ≡ m .session .entries
+      unfolding drainedSession
+      same-entries = ap (λ (d : Session). d .entries) es
 
-    pub packet-out : (a : Answer) (m′ : Stored) (o : List ℕ)
-        → Leaves (handOut (take 1 (entriesOf (m .storage .entries) (m .storage .payloads) (s .entries))) (parse after)) (after .storage) m′
-        → a ≡ handed (s .queue) (take 1 (entriesOf (m .storage .entries) (m .storage .payloads) (s .entries)))
-        → o ≡ over (payloadOut (take 1 (entriesOf (m .storage .entries) (m .storage .payloads) (s .entries)))) out
-        → accepted (poll now out) (parse m) ≡ record { answer = a; stored = m′; output = o }
-    unfolding accepted answered taken outputAfter afterPoll parse
-    packet-out a m′ o l ea eo =
-        let l′ = rw (first-after, is-parsed) at l in
-        let w = handed-written m′ l′ in
-        let ha = ea ∙ ap (handed (s .queue)) first-after ∙ same-answer in
-        let ho = eo ∙ ap (λ (e : List Entry). over (payloadOut e) out) first-after in
-        rw (front-is now (parse m) (parse m .entries) b eb, z, first, ha, w, ho)
+      first-after : take 1 (entriesOf (m .storage .entries) (m .storage .payloads) (s .entries)) ≡ firstOf m ∷ []
+      first-after = rw same-entries first
+
+      -- the gaps below it are those that were counted before `drain`
+      pub is-lost : due .lost ≡ length (lostUnder (s .queue .config .settings .mode) (take 1 (entriesOf (m .storage .entries) (m .storage .payloads) (s .entries))) (gapsOf g (s .gaps)))
+      unfolding dueFor lostUnder drainedSession lose parse
+      is-lost =
+          let set = m .session .queue .config .settings in
+          let before = gapsOf (m .storage .gaps) (m .session .gaps) in
+          let out-is : front now (parse m) (parse m .entries) ≡ firstOf m ∷ [] = front-is now (parse m) (parse m .entries) (due .«goes_out») eb ∙ rw z first in
+          let left : gapsOf g (length (notGivenUp set (set .mode) before)) ≡ notGivenUp set (set .mode) before = gaps-left (m .session) (m .storage .gaps) g (holding m h .gaps-in .room) eg in
+          ap (λ (d : Due). d .lost) ed ∙ rw (out-is, first-after, es, left, same-below set (set .mode) (firstOf m .number) before)
+
+      handed-written : (m′ : Stored) → Leaves (handOut (firstOf m ∷ []) (drained now (parse m))) (after .storage) m′ → m′ ≡ write (handOut (firstOf m ∷ []) (drained now (parse m)))
+      unfolding handOut drained lose parse
+      handed-written m′ l = leaves-write (after .storage) (handOut (firstOf m ∷ []) (drained now (parse m))) (drained-lengths now m h g eg) m′ l
+
+      same-answer : handed (s .queue) (firstOf m ∷ []) ≡ handed (m .session .queue) (firstOf m ∷ [])
+      unfolding handed packetOf drainedSession lose
+      same-answer = rw es
+
+      pub packet-out : (a : Answer) (m′ : Stored) (o : List ℕ)
+          → Leaves (handOut (take 1 (entriesOf (m .storage .entries) (m .storage .payloads) (s .entries))) (parse after)) (after .storage) m′
+          → a ≡ handed (s .queue) (take 1 (entriesOf (m .storage .entries) (m .storage .payloads) (s .entries)))
+          → o ≡ over (payloadOut (take 1 (entriesOf (m .storage .entries) (m .storage .payloads) (s .entries)))) out
+          → accepted (poll now out) (parse m) ≡ record { answer = a; stored = m′; output = o }
+      unfolding accepted answered taken outputAfter afterPoll parse
+      packet-out a m′ o l ea eo =
+          let l′ = rw (first-after, is-parsed) at l in
+          let w = handed-written m′ l′ in
+          let ha = ea ∙ ap (handed (s .queue)) first-after ∙ same-answer in
+          let ho = eo ∙ ap (λ (e : List Entry). over (payloadOut e) out) first-after in
+          rw (front-is now (parse m) (parse m .entries) (due .«goes_out») eb, z, first, ha, w, ho)
+
+-- ---- the call
+
+module _ (now : ℕ) (m : Stored) (out : List ℕ) where
+  -- 14
+  abbrev counts : ℕ
+  counts = countRefusal ((m .session .queue .counters .lost + length (lostWith now (parse m) (front now (parse m) (parse m .entries)))) ∷ [])
+
+  checks : callRefusal (poll now out) (parse m) ≡ orElse (outputRefusal LARGEST-PAYLOAD out) (orElse (clockRefusal (m .session .queue) now) counts)
+  unfolding callRefusal pollRefusal parse
+  checks = refl
+
+  module _ (r : ℕ) (e : r ≡ earlyRefusal LARGEST-PAYLOAD out now m) where
+    pub poll-early : (r ≡ 0 → ⊥) → Does (poll now out) m (refused r) m out
+    unfolding outputOf
+    poll-early n = early-refused (poll now out) m LARGEST-PAYLOAD now out counts checks r e n
+
+    module _ (z : r ≡ 0) where
+      pub poll-sound : sessionSound m ≡ true
+      poll-sound = is-sound m LARGEST-PAYLOAD now out r e z
+
+      pub poll-counted : ((ENTRY-WORDS * m .session .entries ≤ length (m .storage .entries)) × (GAP-WORDS * m .session .gaps ≤ length (m .storage .gaps)))
+          × ((ascends (gapNumbers (gapsOf (m .storage .gaps) (m .session .gaps))) ≡ true)
+          × (((m .session .queue .clock ≤ now) × (now ≤ largest)) × (T (settingsValid (m .session .queue .config .settings)) × T (lastSound (m .session .queue .clock) (m .session .queue .last)))))
+      unfolding parse
+      poll-counted =
+          let k = checked m poll-sound in
+          ((k .room .entries, k .room .gaps), (k .lists .gaps-ascend, (is-timely m LARGEST-PAYLOAD now out r e z, (settings-in m k, last-in m k))))
+
+      module _ (due : Due) (ed : due ≡ dueFor now (parse m)) where
+        pub poll-fits : m .session .queue .counters .lost + (due .given + due .lost) < 2 ^ 64
+        poll-fits =
+            let k = checked m poll-sound in
+            omega (arith, due-few now (parse m) due ed (k .lists .gaps-ascend), parse-gaps m, lost-in m k)
+
+        pub poll-taken : (m2 : Stored) → m2 ≡ write (parse m) → Settled m2 × ((due ≡ dueFor now (parse m2)) × (PAYLOAD-BYTES ≤ length out))
+        poll-taken m2 w =
+            let k = settled-of m m2 poll-sound w in
+            (k .0, (ed ∙ ap (dueFor now) (sym (k .1)), is-room m LARGEST-PAYLOAD now out r e z))
+
+        module _ (b : ℕ) (eb : b ≡ countRefusal ((m .session .queue .counters .lost + (due .given + due .lost)) ∷ [])) where
+          counted : b ≡ counts
+          counted = eb ∙ ap (λ (n : ℕ). countRefusal ((m .session .queue .counters .lost + n) ∷ [])) (due-counts now (parse m) due ed)
+
+          pub poll-late : (b ≡ 0 → ⊥) → Does (poll now out) m (refused b) m out
+          unfolding outputOf
+          poll-late n = late-refused (poll now out) m LARGEST-PAYLOAD now out counts checks r e z b counted n
+
+          pub poll-done : b ≡ 0 → (m2 : Stored) → m2 ≡ write (parse m) → (done : Done) → accepted (poll now out) (parse m2) ≡ done → did (poll now out) m ≡ done
+          poll-done n m2 w done d =
+              goes-on (poll now out) m LARGEST-PAYLOAD now out counts checks r e z b counted n ∙ ap (accepted (poll now out)) (sym (settled-of m m2 poll-sound w .1)) ∙ d

@@ -3,23 +3,25 @@ use mathlib.Core.Path.{_≡_}
 use mathlib.Core.Bool.{Bool, true, false}
 use mathlib.Core.List.{List, [], _∷_}
 use Prim.Native.Nat.{ℕ, _+_, _*_, _≤_, _<_, _^_}
-use lib.Dec.{T}
 use lib.ListN.{length}
 use Rattle.words.specs.Blocks.{laid}
 use Rattle.words.specs.Order.{ascends}
-use Rattle.rtx_state.specs.RoundTrip.{optRttInRange}
-use Rattle.config.specs.Valid.{settingsValid}
+use Rattle.refusals.specs.Refusals.{orElse}
+use Rattle.config.specs.declared.NackTimings.{NackTimings}
+use Rattle.config.specs.declared.RtpInboundQueueMode.{RtpInboundQueueMode}
+use Rattle.config.specs.Timings.{nackTimings}
 use Rattle.model.specs.declared.Queue.{Queue}
 use Rattle.model.specs.declared.Session.{Session}
 use Rattle.model.specs.Records.{Entry, Gap, State, gapNumbers, withClock}
 use Rattle.model.specs.Rules.{MAX-LOST-NACKED, due}
 use Rattle.model.specs.Lists.{keep, some?, every?}
-use Rattle.model.specs.Poll.{lose, givenUp, notGivenUp, ready, front, estimateOf}
+use Rattle.model.specs.Poll.{lose, givenUp, notGivenUp, ready, front, lostBelow, estimateOf}
 use Rattle.model.specs.Storage.{Storage, Stored, REMEMBERED-WORDS, entryWords, payloadBytes, gapWords, rememberedWords, gapsOf, write}
-use Rattle.model.specs.Table.{lostWith}
-use Rattle.packet_gaps.specs.Gaps.{GapsIn, instantsFit, full}
+use Rattle.model.specs.Table.{countRefusal, nackCountRefusal}
+use Rattle.packet_gaps.specs.Gaps.{GapsIn, instantsFit, Small, full}
 use Rattle.entries.specs.Entries.{EntriesIn}
 use Rattle.lost_nacked.specs.Remembered.{RememberedIn}
+use Rattle.poll.specs.declared.Due.{Due}
 
 -- an entry is there to go out
 pub record Handing (m : Stored) : Type 0 where
@@ -51,19 +53,33 @@ drainedSession now s gaps =
     let set = s .queue .config .settings in
     record { queue = lose (length (givenUp set (set .mode) gaps)) (withClock (s .queue) now); entries = s .entries; gaps = length (notGivenUp set (set .mode) gaps); remembered = s .remembered }
 
--- the gaps that `poll` makes lost
-unfoldable pub lostFor : ℕ → State → List Gap
-lostFor now s = lostWith now s (front now s (s .entries))
+-- the gaps that are lost below the entry at the front of the list, if there is one
+unfoldable pub lostUnder : RtpInboundQueueMode → List Entry → List Gap → List Gap
+lostUnder mode [] gaps = []
+lostUnder mode (e ∷ es) gaps = lostBelow mode (e .number) gaps
+
+-- what `poll` does, by counts: the gaps given up, whether the front entry goes out, and the gaps lost below it
+unfoldable pub dueFor : ℕ → State → Due
+dueFor now s =
+    let set = s .queue .config .settings in
+    record { given = length (givenUp set (set .mode) (s .gaps)); «goes_out» = handsOut now (s .queue) (s .entries); lost = length (lostUnder (set .mode) (front now s (s .entries)) (s .gaps)) }
 
 -- the gaps that are NACKed once those given up are out
 unfoldable pub dueLeft : ℕ → Queue → List Gap → List Gap
 dueLeft now q gaps = keep (due (q .config .settings) (estimateOf q) now) (notGivenUp (q .config .settings) (q .config .settings .mode) gaps)
 
--- each gap can be NACKed that is due
-pub record Nacking (now : ℕ) (s : Session) (gaps : List ℕ) : Type 0 where
+-- 14 of `poll_nack`: the numbers lost, then a NACK count
+unfoldable pub nacksRefusal : ℕ → Queue → List Gap → ℕ
+nacksRefusal now q gaps =
+    let set = q .config .settings in
+    orElse (countRefusal ((q .counters .lost + length (givenUp set (set .mode) gaps)) ∷ [])) (nackCountRefusal (dueLeft now q gaps))
+
+-- each gap can be NACKed that is due by these timings, once the first ones are given up
+pub record Nacking (now : ℕ) (s : Session) (gaps : List ℕ) (given : ℕ) (timings : NackTimings) : Type 0 where
   pub gaps-in : GapsIn gaps (s .gaps)
+  pub given-are : given ≡ length (givenUp (s .queue .config .settings) (s .queue .config .settings .mode) (gapsOf gaps (s .gaps)))
+  pub timings-are : timings ≡ nackTimings (s .queue .config .settings) (estimateOf (s .queue))
+  pub small : Small timings
   pub lost-fits : s .queue .counters .lost + s .gaps < 2 ^ 64
-  pub settings : T (settingsValid (s .queue .config .settings))
-  pub estimate : T (optRttInRange (s .queue .rtx .rtt))
   pub instants : every? instantsFit (gapsOf gaps (s .gaps)) ≡ true
   pub none-full : some? full (dueLeft now (s .queue) (gapsOf gaps (s .gaps))) ≡ false

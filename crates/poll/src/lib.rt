@@ -1,7 +1,7 @@
 // `poll` (000; 01, "Hand-out"): the gaps given up, then the front entry, if its time has come.
 ghost use mathlib.Core.Path.{_≡_};
 ghost use mathlib.Core.Bool.{true};
-ghost use mathlib.Core.List.{List};
+ghost use mathlib.Core.List.{List, [], _∷_};
 ghost use Prim.Native.Nat.{ℕ, _+_, _*_, _≤_, _<_, _^_};
 ghost use lib.Dec.{T};
 ghost use lib.ListN.{length, take, drop};
@@ -9,6 +9,7 @@ ghost use Rattle.words.specs.Blocks.{laid};
 ghost use Rattle.words.specs.Order.{ascends};
 ghost use Rattle.words.specs.Words.{over};
 ghost use Rattle.durations.specs.Seconds.{largest};
+ghost use Rattle.refusals.specs.Refusals.{orElse};
 ghost use Rattle.config.specs.Valid.{settingsValid};
 ghost use Rattle.model.specs.Records.{gapNumbers};
 ghost use Rattle.model.specs.Rules.{MAX-LOST-NACKED, rememberedAfter};
@@ -19,14 +20,14 @@ ghost use Rattle.packet_gaps.specs.Gaps.{GapsIn};
 ghost use Rattle.lost_nacked.specs.Remembered.{RememberedIn};
 ghost use Rattle.model.specs.Calls as Calls;
 ghost use Rattle.model.specs.Table as Table;
-ghost use Rattle.model.specs.Table.{pollRefusal};
+ghost use Rattle.model.specs.Table.{outputRefusal, clockRefusal};
 ghost use Rattle.model.specs.Did.{accepted};
 ghost use Rattle.model.specs.Calls.{delayIn, handed, payloadOut};
 ghost use Rattle.entries.specs.Entries.{entry};
 ghost use Rattle.poll.specs.Answers as Answers;
 ghost use Rattle.storage.specs.Stored.{storage, stored, Does};
 ghost use Rattle.storage.specs.Settled.{Settled};
-ghost use Rattle.poll.specs.Steps.{Handing, Leaves, handsOut, drainedSession, lostFor};
+ghost use Rattle.poll.specs.Steps.{Handing, Leaves, handsOut, drainedSession, lostUnder, dueFor};
 use config::RtpInboundQueueMode;
 use config::Settings;
 use entries::Entry;
@@ -65,6 +66,32 @@ pub struct Polled {
     pub session: Session,
 }
 
+// What a `poll` does: how many gaps at the front are given up, whether the front entry goes out, and how many gaps are lost below it.
+struct Due {
+    given: usize,
+    goes_out: bool,
+    lost: usize,
+}
+
+// 15: the output has less room than the call needs.
+fn output_refusal(needed: usize, room: usize) -> u64
+    ensures { λ r. ⌜ ((out : List ℕ) → length out ≡ room → r ≡ outputRefusal needed out) ⌝ }
+{
+    if room < needed {
+        return refusals::OUTPUT;
+    }
+    0
+}
+
+// 15, then 8
+pub(crate) fn output_and_clock(q: Queue, instant: u64, needed: usize, room: usize) -> u64
+    ensures { λ r. ⌜ ((out : List ℕ) → length out ≡ room → r ≡ orElse (outputRefusal needed out) (clockRefusal q instant)) ⌝ }
+{
+    let short = output_refusal(needed, room);
+    let late = session::check::clock(q, instant);
+    refusals::or_else(short, late)
+}
+
 // How many gaps at the front are given up.
 pub(crate) fn given_up(q: Queue, gaps: &[u64], n: usize) -> usize
     requires { ⌜ GAP-WORDS * n ≤ length (now gaps) ⌝ }
@@ -93,21 +120,20 @@ fn take_front(gaps: &mut [u64], n: usize, k: usize)
     packet_gaps::drain(gaps, n, k);
 }
 
-// The clock, then `drain_lost`.
-pub(crate) fn drain(s: Session, gaps: &mut [u64], instant: u64) -> Session
+// The clock, then `drain_lost`: the gaps that are given up go.
+pub(crate) fn drain(s: Session, gaps: &mut [u64], given: usize, instant: u64) -> Session
     requires { ⌜ GapsIn (now gaps) (s .gaps) ⌝ }
+    requires { ⌜ given ≡ length (givenUp (s .queue .config .settings) (s .queue .config .settings .mode) (gapsOf (now gaps) (s .gaps))) ⌝ }
     requires { ⌜ s .queue .counters .lost + s .gaps < 2 ^ 64 ⌝ }
     ensures { λ r. ⌜ r ≡ drainedSession instant s (gapsOf (now (gaps .entry)) (s .gaps)) ⌝ }
     ensures { λ _. ⌜ now (gaps .exit) ≡ laid gapWords (length (now (gaps .entry))) (notGivenUp (s .queue .config .settings) (s .queue .config .settings .mode) (gapsOf (now (gaps .entry)) (s .gaps))) ⌝ }
 {
-    let queue = s.queue;
-    let k = given_up(queue, gaps, s.gaps);
-    let drained = session::poll::drained(queue, instant, k as u64);
-    take_front(gaps, s.gaps, k);
+    let drained = session::poll::drained(s.queue, instant, given as u64);
+    take_front(gaps, s.gaps, given);
     Session {
         queue: drained,
         entries: s.entries,
-        gaps: s.gaps - k,
+        gaps: s.gaps - given,
         remembered: s.remembered,
     }
 }
@@ -155,6 +181,41 @@ fn goes_out(q: Queue, entries: &[u64], n: usize, instant: u64) -> bool
     session::poll::ready(q, instant, e.timestamp)
 }
 
+// What a `poll` at this instant does.
+fn due_at(s: Session, entries: &[u64], gaps: &[u64], instant: u64) -> Due
+    requires { ⌜ (ENTRY-WORDS * s .entries ≤ length (now entries)) × (GAP-WORDS * s .gaps ≤ length (now gaps)) ⌝ }
+    requires { ⌜ ascends (gapNumbers (gapsOf (now gaps) (s .gaps))) ≡ true ⌝ }
+    requires { ⌜ (s .queue .clock ≤ instant) × (instant ≤ largest) ⌝ }
+    requires { ⌜ T (settingsValid (s .queue .config .settings)) × T (lastSound (s .queue .clock) (s .queue .last)) ⌝ }
+    ensures { λ r. ⌜ ((payloads remembered : List ℕ) → r ≡ dueFor instant (parse (stored s (now (entries .entry)) payloads (now (gaps .entry)) remembered))) ⌝ }
+{
+    let queue = s.queue;
+    let given = given_up(queue, gaps, s.gaps);
+    let ready = goes_out(queue, entries, s.entries, instant);
+    if !ready {
+        return Due {
+            given,
+            goes_out: false,
+            lost: 0,
+        };
+    }
+    let first = entries::read(entries, 0);
+    let lost = lost_below(queue, gaps, s.gaps, first.number);
+    Due {
+        given,
+        goes_out: true,
+        lost,
+    }
+}
+
+// 14
+fn count_refusal(q: Queue, due: Due) -> u64
+    requires { ⌜ q .counters .lost + (due .given + due .lost) < 2 ^ 64 ⌝ }
+    ensures { λ r. ⌜ r ≡ Table.countRefusal ((q .counters .lost + (due .given + due .lost)) ∷ []) ⌝ }
+{
+    session::poll::lost_refusal(q, (due.given + due.lost) as u64)
+}
+
 // How long a packet waits.
 fn delay_of(settings: Settings) -> u64
     ensures { λ r. ⌜ r ≡ delayIn (settings .mode) settings ⌝ }
@@ -189,24 +250,25 @@ fn packet(q: Queue, e: Entry) -> HandedOut
     }
 }
 
-// The front entry goes out; in a sorted queue the gaps below it are lost.
+// The front entry goes out, and the first `lost` gaps, those below it in a sorted queue, are lost.
 fn hand_out(
     s: Session,
     entries: &mut [u64],
     payloads: &mut [u8],
     gaps: &mut [u64],
     remembered: &mut [u64],
+    lost: usize,
     out: &mut [u8],
 ) -> Polled
     requires { ⌜ Handing (stored s (now entries) (now payloads) (now gaps) (now remembered)) ⌝ }
     requires { ⌜ PAYLOAD-BYTES ≤ length (now out) ⌝ }
+    requires { ⌜ lost ≡ length (lostUnder (s .queue .config .settings .mode) (take 1 (entriesOf (now entries) (now payloads) (s .entries))) (gapsOf (now gaps) (s .gaps))) ⌝ }
     ensures { λ r. ⌜ Leaves (handOut (take 1 (entriesOf (now (entries .entry)) (now (payloads .entry)) (s .entries))) (parse (stored s (now (entries .entry)) (now (payloads .entry)) (now (gaps .entry)) (now (remembered .entry))))) (storage (now (entries .entry)) (now (payloads .entry)) (now (gaps .entry)) (now (remembered .entry))) (stored (r .session) (now (entries .exit)) (now (payloads .exit)) (now (gaps .exit)) (now (remembered .exit))) ⌝ }
     ensures { λ r. ⌜ Answers.pollAnswer (r .answer) ≡ handed (s .queue) (take 1 (entriesOf (now (entries .entry)) (now (payloads .entry)) (s .entries))) ⌝ }
     ensures { λ r. ⌜ now (out .exit) ≡ over (payloadOut (take 1 (entriesOf (now (entries .entry)) (now (payloads .entry)) (s .entries)))) (now (out .entry)) ⌝ }
 {
     let queue = s.queue;
     let e = entries::pop_front(entries, payloads, s.entries, out);
-    let lost = lost_below(queue, gaps, s.gaps, e.number);
     let count = remember(queue, remembered, s.remembered, gaps, lost);
     take_front(gaps, s.gaps, lost);
     let next = session::poll::handed_out(queue, lost as u64, e.number);
@@ -223,61 +285,6 @@ fn hand_out(
     }
 }
 
-// How many gaps become lost: those given up, and those below the entry that goes out.
-fn lost_with(s: Session, entries: &[u64], gaps: &[u64], instant: u64) -> usize
-    requires { ⌜ (ENTRY-WORDS * s .entries ≤ length (now entries)) × (GAP-WORDS * s .gaps ≤ length (now gaps)) ⌝ }
-    requires { ⌜ ascends (gapNumbers (gapsOf (now gaps) (s .gaps))) ≡ true ⌝ }
-    requires { ⌜ (s .queue .clock ≤ instant) × (instant ≤ largest) ⌝ }
-    requires { ⌜ T (settingsValid (s .queue .config .settings)) × T (lastSound (s .queue .clock) (s .queue .last)) ⌝ }
-    ensures { λ r. ⌜ ((payloads remembered : List ℕ) → r ≡ length (lostFor instant (parse (stored s (now (entries .entry)) payloads (now (gaps .entry)) remembered)))) ⌝ }
-{
-    let queue = s.queue;
-    let given = given_up(queue, gaps, s.gaps);
-    if !goes_out(queue, entries, s.entries, instant) {
-        return given;
-    }
-    let first = entries::read(entries, 0);
-    given + lost_below(queue, gaps, s.gaps, first.number)
-}
-
-// 15, 8, 14
-fn late_refusal(s: Session, entries: &[u64], gaps: &[u64], instant: u64, room: usize) -> u64
-    requires { ⌜ (ENTRY-WORDS * s .entries ≤ length (now entries)) × (GAP-WORDS * s .gaps ≤ length (now gaps)) ⌝ }
-    requires { ⌜ ascends (gapNumbers (gapsOf (now gaps) (s .gaps))) ≡ true ⌝ }
-    requires { ⌜ T (settingsValid (s .queue .config .settings)) × T (lastSound (s .queue .clock) (s .queue .last)) ⌝ }
-    requires { ⌜ s .queue .counters .lost + s .gaps < 2 ^ 64 ⌝ }
-    ensures { λ r. ⌜ ((payloads remembered out : List ℕ) → length out ≡ room → r ≡ pollRefusal instant out (parse (stored s (now (entries .entry)) payloads (now (gaps .entry)) remembered))) ⌝ }
-{
-    if room < 320 {
-        return refusals::OUTPUT;
-    }
-    let late = session::check::clock(s.queue, instant);
-    if late != 0 {
-        return late;
-    }
-    let lost = lost_with(s, entries, gaps, instant);
-    session::poll::lost_refusal(s.queue, lost as u64)
-}
-
-// The number of the first check that catches the call, or 0.
-fn refusal(
-    s: Session,
-    entries: &[u64],
-    payloads: &[u8],
-    gaps: &[u64],
-    remembered: &[u64],
-    instant: u64,
-    room: usize,
-) -> u64
-    ensures { λ r. ⌜ ((out : List ℕ) → length out ≡ room → r ≡ Table.refusal (Calls.poll instant out) (stored s (now (entries .entry)) (now (payloads .entry)) (now (gaps .entry)) (now (remembered .entry)))) ⌝ }
-{
-    let damaged = storage::session(s, entries, payloads, gaps, remembered);
-    if damaged != 0 {
-        return damaged;
-    }
-    late_refusal(s, entries, gaps, instant, room)
-}
-
 // What `poll` does to a settled session.
 fn accept(
     s: Session,
@@ -286,21 +293,22 @@ fn accept(
     gaps: &mut [u64],
     remembered: &mut [u64],
     instant: u64,
+    due: Due,
     out: &mut [u8],
 ) -> Polled
     requires { ⌜ Settled (stored s (now entries) (now payloads) (now gaps) (now remembered)) ⌝ }
-    requires { ⌜ pollRefusal instant (now out) (parse (stored s (now entries) (now payloads) (now gaps) (now remembered))) ≡ 0 ⌝ }
+    requires { ⌜ due ≡ dueFor instant (parse (stored s (now entries) (now payloads) (now gaps) (now remembered))) ⌝ }
+    requires { ⌜ PAYLOAD-BYTES ≤ length (now out) ⌝ }
     ensures { λ r. ⌜ accepted (Calls.poll instant (now (out .entry))) (parse (stored s (now (entries .entry)) (now (payloads .entry)) (now (gaps .entry)) (now (remembered .entry)))) ≡ record { answer = Answers.pollAnswer (r .answer); stored = stored (r .session) (now (entries .exit)) (now (payloads .exit)) (now (gaps .exit)) (now (remembered .exit)); output = now (out .exit) } ⌝ }
 {
-    let ready = goes_out(s.queue, entries, s.entries, instant);
-    let drained = drain(s, gaps, instant);
-    if !ready {
+    let drained = drain(s, gaps, due.given, instant);
+    if !due.goes_out {
         return Polled {
             answer: PollAnswer::Nothing,
             session: drained,
         };
     }
-    hand_out(drained, entries, payloads, gaps, remembered, out)
+    hand_out(drained, entries, payloads, gaps, remembered, due.lost, out)
 }
 
 // Hands out the front entry, if its time has come: its payload goes to the front of `out`.
@@ -315,13 +323,23 @@ pub fn poll(
 ) -> Polled
     ensures { λ r. ⌜ Does (Calls.poll now (out .entry .now)) (stored session (entries .entry .now) (payloads .entry .now) (gaps .entry .now) (remembered .entry .now)) (Answers.pollAnswer (r .answer)) (stored (r .session) (entries .exit .now) (payloads .exit .now) (gaps .exit .now) (remembered .exit .now)) (out .exit .now) ⌝ }
 {
-    let refused = refusal(session, entries, payloads, gaps, remembered, now, out.len());
-    if refused != 0 {
+    let damaged = storage::session(session, entries, payloads, gaps, remembered);
+    let late = output_and_clock(session.queue, now, 320, out.len());
+    let early = refusals::or_else(damaged, late);
+    if early != 0 {
         return Polled {
-            answer: PollAnswer::Refused(refused),
+            answer: PollAnswer::Refused(early),
+            session,
+        };
+    }
+    let due = due_at(session, entries, gaps, now);
+    let count = count_refusal(session.queue, due);
+    if count != 0 {
+        return Polled {
+            answer: PollAnswer::Refused(count),
             session,
         };
     }
     storage::settle(session, entries, payloads, gaps, remembered);
-    accept(session, entries, payloads, gaps, remembered, now, out)
+    accept(session, entries, payloads, gaps, remembered, now, due, out)
 }

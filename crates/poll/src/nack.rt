@@ -3,24 +3,20 @@ ghost use mathlib.Core.Path.{_≡_};
 ghost use mathlib.Core.Bool.{true};
 ghost use mathlib.Core.List.{List, map};
 ghost use Prim.Native.Nat.{ℕ, _+_, _*_, _≤_, _<_, _^_};
-ghost use lib.Dec.{T};
 ghost use lib.ListN.{length};
 ghost use Rattle.words.specs.Blocks.{laid};
 ghost use Rattle.words.specs.Words.{over};
-ghost use Rattle.durations.specs.Seconds.{largest};
-ghost use Rattle.rtx_state.specs.RoundTrip.{optRttInRange};
-ghost use Rattle.config.specs.Valid.{settingsValid};
+ghost use Rattle.config.specs.Timings.{nackTimings};
 ghost use Rattle.model.specs.Lists.{every?};
 ghost use Rattle.model.specs.Rules.{nackDue};
 ghost use Rattle.model.specs.Poll.{givenUp, notGivenUp, estimateOf};
 ghost use Rattle.model.specs.Calls as Calls;
-ghost use Rattle.model.specs.Storage.{GAP-WORDS, gapWords, gapsOf, parse};
-ghost use Rattle.model.specs.Table as Table;
-ghost use Rattle.model.specs.Table.{pollNackRefusal};
-ghost use Rattle.packet_gaps.specs.Gaps.{truncated, instantsFit};
+ghost use Rattle.model.specs.Storage.{GAP-WORDS, gapWords, gapsOf};
+ghost use Rattle.packet_gaps.specs.Gaps.{truncated, instantsFit, Small};
 ghost use Rattle.poll.specs.Answers as Answers;
 ghost use Rattle.storage.specs.Stored.{stored, Does};
-ghost use Rattle.poll.specs.Steps.{Nacking, dueLeft, drainedSession};
+ghost use Rattle.poll.specs.Steps.{Nacking, dueLeft, drainedSession, nacksRefusal};
+use config::NackTimings;
 use model::Session;
 
 // How many numbers stand in the output.
@@ -35,61 +31,24 @@ pub struct PolledNack {
     pub session: Session,
 }
 
-// 14 for a NACK count
-fn count_refusal(s: Session, gaps: &[u64], given: usize, instant: u64) -> u64
+// 14: the numbers lost, then a NACK count.
+fn count_refusal(s: Session, gaps: &[u64], given: usize, timings: NackTimings, instant: u64) -> u64
     requires { ⌜ GAP-WORDS * s .gaps ≤ length (now gaps) ⌝ }
     requires { ⌜ given ≡ length (givenUp (s .queue .config .settings) (s .queue .config .settings .mode) (gapsOf (now gaps) (s .gaps))) ⌝ }
-    requires { ⌜ T (settingsValid (s .queue .config .settings)) × T (optRttInRange (s .queue .rtx .rtt)) ⌝ }
+    requires { ⌜ timings ≡ nackTimings (s .queue .config .settings) (estimateOf (s .queue)) ⌝ }
+    requires { ⌜ Small timings ⌝ }
     requires { ⌜ every? instantsFit (gapsOf (now gaps) (s .gaps)) ≡ true ⌝ }
-    ensures { λ r. ⌜ r ≡ Table.nackCountRefusal (dueLeft instant (s .queue) (gapsOf (now (gaps .entry)) (s .gaps))) ⌝ }
-{
-    let timings = session::nack::nack_timings(s.queue);
-    if packet_gaps::nacks::any_full(gaps, given, s.gaps, instant, timings) {
-        return refusals::COUNT;
-    }
-    0
-}
-
-// 15, 8, 14
-fn late_refusal(s: Session, gaps: &[u64], instant: u64, room: usize) -> u64
-    requires { ⌜ GAP-WORDS * s .gaps ≤ length (now gaps) ⌝ }
-    requires { ⌜ T (settingsValid (s .queue .config .settings)) × T (optRttInRange (s .queue .rtx .rtt)) ⌝ }
-    requires { ⌜ (s .queue .clock ≤ largest → every? instantsFit (gapsOf (now gaps) (s .gaps)) ≡ true) ⌝ }
     requires { ⌜ s .queue .counters .lost + s .gaps < 2 ^ 64 ⌝ }
-    ensures { λ r. ⌜ ((entries payloads remembered out : List ℕ) → length out ≡ room → r ≡ pollNackRefusal instant out (parse (stored s entries payloads (now (gaps .entry)) remembered))) ⌝ }
+    ensures { λ r. ⌜ r ≡ nacksRefusal instant (s .queue) (gapsOf (now (gaps .entry)) (s .gaps)) ⌝ }
 {
-    if room < s.queue.config.settings.max_gaps {
-        return refusals::OUTPUT;
-    }
-    let late = session::check::clock(s.queue, instant);
-    if late != 0 {
-        return late;
-    }
-    let given = super::given_up(s.queue, gaps, s.gaps);
     let lost = session::poll::lost_refusal(s.queue, given as u64);
     if lost != 0 {
         return lost;
     }
-    count_refusal(s, gaps, given, instant)
-}
-
-// The number of the first check that catches the call, or 0.
-fn refusal(
-    s: Session,
-    entries: &[u64],
-    payloads: &[u8],
-    gaps: &[u64],
-    remembered: &[u64],
-    instant: u64,
-    room: usize,
-) -> u64
-    ensures { λ r. ⌜ ((out : List ℕ) → length out ≡ room → r ≡ Table.refusal (Calls.pollNack instant out) (stored s (now (entries .entry)) (now (payloads .entry)) (now (gaps .entry)) (now (remembered .entry)))) ⌝ }
-{
-    let damaged = storage::session(s, entries, payloads, gaps, remembered);
-    if damaged != 0 {
-        return damaged;
+    if packet_gaps::nacks::any_full(gaps, given, s.gaps, instant, timings) {
+        return refusals::COUNT;
     }
-    late_refusal(s, gaps, instant, room)
+    0
 }
 
 fn answer_of(count: usize) -> NackAnswer
@@ -102,16 +61,22 @@ fn answer_of(count: usize) -> NackAnswer
 }
 
 // What `poll_nack` does to the gaps of a settled session.
-fn accept(s: Session, gaps: &mut [u64], instant: u64, out: &mut [u16]) -> PolledNack
-    requires { ⌜ Nacking instant s (now gaps) ⌝ }
+fn accept(
+    s: Session,
+    gaps: &mut [u64],
+    given: usize,
+    timings: NackTimings,
+    instant: u64,
+    out: &mut [u16],
+) -> PolledNack
+    requires { ⌜ Nacking instant s (now gaps) given timings ⌝ }
     requires { ⌜ s .gaps ≤ length (now out) ⌝ }
     ensures { λ r. ⌜ r .session ≡ drainedSession instant s (gapsOf (now (gaps .entry)) (s .gaps)) ⌝ }
     ensures { λ r. ⌜ Answers.nackAnswer (r .answer) ≡ Calls.nackAnswer (map truncated (dueLeft instant (s .queue) (gapsOf (now (gaps .entry)) (s .gaps)))) ⌝ }
     ensures { λ r. ⌜ now (gaps .exit) ≡ laid gapWords (length (now (gaps .entry))) (nackDue (s .queue .config .settings) (estimateOf (s .queue)) instant (notGivenUp (s .queue .config .settings) (s .queue .config .settings .mode) (gapsOf (now (gaps .entry)) (s .gaps)))) ⌝ }
     ensures { λ r. ⌜ now (out .exit) ≡ over (map truncated (dueLeft instant (s .queue) (gapsOf (now (gaps .entry)) (s .gaps)))) (now (out .entry)) ⌝ }
 {
-    let timings = session::nack::nack_timings(s.queue);
-    let drained = super::drain(s, gaps, instant);
+    let drained = super::drain(s, gaps, given, instant);
     let count = packet_gaps::nacks::poll_nacks(gaps, drained.gaps, instant, timings, out);
     let answer = answer_of(count);
     PolledNack {
@@ -132,13 +97,25 @@ pub fn poll_nack(
 ) -> PolledNack
     ensures { λ r. ⌜ Does (Calls.pollNack now (out .entry .now)) (stored session (entries .entry .now) (payloads .entry .now) (gaps .entry .now) (remembered .entry .now)) (Answers.nackAnswer (r .answer)) (stored (r .session) (entries .exit .now) (payloads .exit .now) (gaps .exit .now) (remembered .exit .now)) (out .exit .now) ⌝ }
 {
-    let refused = refusal(session, entries, payloads, gaps, remembered, now, out.len());
-    if refused != 0 {
+    let needed = session.queue.config.settings.max_gaps;
+    let damaged = storage::session(session, entries, payloads, gaps, remembered);
+    let late = super::output_and_clock(session.queue, now, needed, out.len());
+    let early = refusals::or_else(damaged, late);
+    if early != 0 {
         return PolledNack {
-            answer: NackAnswer::Refused(refused),
+            answer: NackAnswer::Refused(early),
+            session,
+        };
+    }
+    let given = super::given_up(session.queue, gaps, session.gaps);
+    let timings = session::nack::nack_timings(session.queue);
+    let count = count_refusal(session, gaps, given, timings, now);
+    if count != 0 {
+        return PolledNack {
+            answer: NackAnswer::Refused(count),
             session,
         };
     }
     storage::settle(session, entries, payloads, gaps, remembered);
-    accept(session, gaps, now, out)
+    accept(session, gaps, given, timings, now, out)
 }

@@ -47,7 +47,7 @@ pub written-as : (t : State) (s : Session) (e p g r : List ℕ) → s .queue ≡
 unfolding write
 written-as t s e p g r hq he hg hr es ps gs rs = rw (← es, ← ps, ← gs, ← rs, ← hq, ← he, ← hg, ← hr)
 
-pub frontOut-is : (l : List Entry) (t : State) → 0 < length l
+frontOut-is : (l : List Entry) (t : State) → 0 < length l
     → frontOut l t ≡ record { queue = withReturned (withCounters (t .queue) (countDropped (t .queue .counters))) (firstNumber l); entries = drop 1 l; gaps = gapsFrom (firstNumber l) (t .gaps); remembered = t .remembered }
 unfolding frontOut firstNumber
 frontOut-is [] t h = absurd (omega arith)
@@ -124,7 +124,7 @@ module _ (instant : ℕ) (e : Row.Entry) (payload : List ℕ) (p : Code.Place) (
         let t : T (waits (mediaPlace (parse m) (e .number))) = subst T (sym (ap waits (sym (f .stands)) ∙ w)) tt in
         subst (Stands (highestOf (parse m .queue .last)) (parse m .gaps) (e .number)) (sym (f .stands)) (waiting-stands (parse m) (e .number) t .1)
 
-    pub gaps-ascend-after : ascends (gapNumbers (gapsAfter instant (e .number) (place p) (parse m .gaps))) ≡ true
+    gaps-ascend-after : ascends (gapNumbers (gapsAfter instant (e .number) (place p) (parse m .gaps))) ≡ true
     gaps-ascend-after =
         let l = ready-for .checked .sound .lists-in in
         is-true _ (ascends-of-rising (λ (g : Gap). g .number) _ (rising-after instant stands (l .gaps-rise) (each-imp (λ g k. k .under) (l .gaps-in))))
@@ -208,7 +208,7 @@ module _ (instant : ℕ) (e : Row.Entry) (payload : List ℕ) (p : Code.Place) (
       unfolding placed withinDepth afterQueued
       placed-over = let o : overfull after ≡ true = at-depth in rw (w, o) (frontOut-is grown after (omega (arith, length-insert x (parse m .entries))))
 
-      pub front-fits : m .session .queue .counters .dropped < largest
+      front-fits : m .session .queue .counters .dropped < largest
       unfolding mediaValues parse
       front-fits =
           let o : overfull after ≡ true = at-depth in
@@ -234,11 +234,11 @@ module _ (instant : ℕ) (e : Row.Entry) (payload : List ℕ) (p : Code.Place) (
         go is-other t = omega (arith, n-is, ready-for .gaps-in .room)
 
     module _ (k : ℕ) (gs : List ℕ) (hk : k ≡ length opened) (hg : gs ≡ laid gapWords (length (m .storage .gaps)) opened) where
-      pub opened-are : gapsOf gs k ≡ opened
+      opened-are : gapsOf gs k ≡ opened
       unfolding laid gapsLaid
       opened-are = let at : gs ≡ gapsLaid (m .session .queue .config .settings .«max_gaps») opened = hg ∙ rw (ready-for .lengths .gaps) in rw (at, hk) (gapsOf-laid (m .session .queue .config .settings .«max_gaps») opened)
 
-      pub opened-length : length gs ≡ length (m .storage .gaps)
+      opened-length : length gs ≡ length (m .storage .gaps)
       unfolding laid
       opened-length = ap length hg ∙ length-padded (length (m .storage .gaps)) _ (omega (arith, length-words GAP-WORDS gapWords gap-wide opened, fits-after))
 

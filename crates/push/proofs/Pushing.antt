@@ -11,8 +11,9 @@ use Rattle.refusals.specs.Refusals.{orElse}
 use Rattle.refusals.proofs.Laws.{orElse-first, orElse-second}
 use Rattle.durations.specs.Seconds.{largest}
 use Rattle.rtp_packet.specs.declared.RtpPacket.{RtpPacket}
-use Rattle.rtp_packet.specs.Header.{payloadOf}
+use Rattle.rtp_packet.specs.Header.{between, payloadOf}
 use Rattle.rtp_packet.specs.Datagram.{LARGEST-PAYLOAD, datagramRefusal, packetOf}
+use Rattle.rtp_packet.proofs.Bounds.{payload-of-packet}
 use Rattle.model.specs.Records.{Entry, State}
 use Rattle.model.specs.Push.{mediaEntry, mediaPlace, afterMedia}
 use Rattle.model.specs.Storage.{Stored, arrivalWord, parse, write}
@@ -26,8 +27,7 @@ use Rattle.entries.specs.Entries.{entry, Incoming}
 use Rattle.session.specs.declared.push.Place as Code
 use Rattle.session.specs.Place.{place}
 use Rattle.push.specs.Media.{Counts, Fit, entryOf, packetRefusal, placed, placedAnswer, didPlace, didPacket}
-use Rattle.storage.proofs.Settled.{refused-is, settled-of}
-use Rattle.push.proofs.Turned.{assoc}
+use Rattle.storage.proofs.Settled.{assoc, refused-is, settled-of}
 
 pub counts-are : (m : Stored) → Counts (m .session) (parse m)
 unfolding parse
@@ -60,6 +60,10 @@ module _ (instant : ℕ) (e : Row.Entry) (payload : List ℕ) (p : Code.Place) (
   place-accepted m2 after a h w z ha hw = rw (← at, eq-eqb (packetRefusal instant (entry e payload) (place p) (parse m)) 0 z, ha, hw, settled-of m m2 h w .1)
 
 -- ---- the datagram
+
+-- the part of it that is its payload
+pub payload-is : (d : List ℕ) (p : RtpPacket) (payload : List ℕ) → payload ≡ between (p .start) (p .end) d → p ≡ packetOf d → payload ≡ payloadOf d
+payload-is d p payload e h = e ∙ ap (λ (q : RtpPacket). between (q .start) (q .end) d) h ∙ payload-of-packet d
 
 module _ (instant : ℕ) (d : List ℕ) (m : Stored) (r : ℕ) (e : r ≡ orElse (sessionRefusal m) (clockRefusal (m .session .queue) instant)) where
   abbrev datagram : ℕ

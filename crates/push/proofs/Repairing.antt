@@ -18,8 +18,7 @@ use Rattle.model.specs.Calls.{repair, answered, taken, outputOf, outputAfter}
 use Rattle.model.specs.Table.{refusal, callRefusal, repairRefusal, clockRefusal, rtxRefusal, mediaFirstRefusal, sessionRefusal}
 use Rattle.model.specs.Did.{Done, did, accepted, turnedBack}
 use Rattle.push.specs.Repair.{originalEntry, fateRefusal, didFate, didRepair, didOriginal}
-use Rattle.storage.proofs.Settled.{refused-is}
-use Rattle.push.proofs.Turned.{assoc}
+use Rattle.storage.proofs.Settled.{assoc, refused-is}
 
 -- ---- 10, then 11
 

@@ -1,21 +1,21 @@
 -- A session that check 16 passes, and its storage once it is settled: what is written of the lists that were read is read as them again, so
 -- that the functions over the lists find what they ask for.
-use mathlib.Core.Path.{_≡_, sym, ap, _∙_}
-use mathlib.Core.Bool.{true, _&&_, not}
+use mathlib.Core.Path.{_≡_, refl, sym, ap, _∙_}
+use mathlib.Core.Bool.{Bool, true, false, cond, _&&_, not}
 use mathlib.Core.List.{List}
 use Prim.Native.Nat.{ℕ, _≤_}
 use native.Mathlib.Omega.{arith}
-use lib.Dec.{T}
+use lib.Dec.{T, eqb}
 use lib.Ieee.Bits.{is-true}
 use lib.Ieee.Fits.{and-l}
-use borrow.Author.Tests.{eq-eqb, ne-eqb, not-false}
+use borrow.Author.Tests.{eq-eqb, ne-eqb, eqb-false, not-false}
 use lib.ListN.{length}
 use Rattle.words.specs.Order.{ascends}
 use Rattle.words.specs.Blocks.{laid}
 use Rattle.words.proofs.Ordered.{and-left, and-right}
 use Rattle.durations.specs.Seconds.{largest}
-use Rattle.refusals.specs.Refusals.{SESSION}
-use Rattle.refusals.proofs.Laws.{orElse-second, passes}
+use Rattle.refusals.specs.Refusals.{SESSION, orElse}
+use Rattle.refusals.proofs.Laws.{orElse-first, orElse-second, passes}
 use Rattle.config.specs.Valid.{settingsValid, sendersValid}
 use Rattle.config.proofs.Facts.{Usable}
 use Rattle.model.specs.declared.Session.{Session}
@@ -225,6 +225,14 @@ unfolding parse
 instants m k h = sound-instants (m .session .queue) (parse m .gaps) h (k .lists .gaps-sound)
 
 -- ---- refused, or accepted
+
+pub assoc : (a b c : ℕ) → orElse a (orElse b c) ≡ orElse (orElse a b) c
+unfolding orElse
+assoc a b c = go (eqb a 0) refl
+  where
+    go : (t : Bool) → eqb a 0 ≡ t → cond t (orElse b c) a ≡ orElse (cond t b a) c
+    go true e = refl
+    go false e = sym (orElse-first a c (eqb-false a 0 e))
 
 module _ (k : Call) (m : Stored) (r : ℕ) (e : r ≡ refusal k m) where
   pub refused-is : (r ≡ 0 → ⊥) → Does k m (Calls.refused r) m (outputOf k)

@@ -1,9 +1,15 @@
 -- `hand_out` meets its contract: the first entry goes, and what stands below it.
-use mathlib.Core.Path.{ap}
+use mathlib.Core.Path.{_≡_, ap, _∙_}
 use Prim.Native.Nat.{_≤_}
 use native.Mathlib.Omega.{arith}
+use lib.ListN.{length}
+use mathlib.Core.List.{List}
+use Rattle.model.specs.Records.{Entry}
+use Rattle.model.specs.Poll.{lostBelow}
+use Rattle.model.specs.Storage.{gapsOf}
 use Rattle.model.specs.Calls.{handed, packet}
 use Rattle.poll.specs.Answers.{pollAnswer}
+use Rattle.poll.specs.Steps.{lostUnder}
 use Rattle.poll.proofs.Handed.{lost-few, payload-size, handed-leaves}
 use borrow.Author.Needs.{needs}
 use Rattle.poll.proofs.hand_out.Statement.{statement}
@@ -12,40 +18,46 @@ use Rattle.poll.proofs.hand_out.Tie as tie
 pop-front-requires : tie.Need-pop-front-requires
 pop-front-requires c κs = search needs
 
-lost-below-requires : tie.Need-lost-below-requires
-lost-below-requires c κs = search needs
+-- what is lost stands below the entry that goes
+below : (c : tie.After-pop-front) → (let a = c .before .before .before .before .before .before .before .before .before .before .args in a .lost ≡ length (lostBelow (a .s .queue .config .settings .mode) (c .pop-front .result .number) (gapsOf (a .gaps .now) (a .s .gaps))))
+unfolding lostUnder
+below c =
+    let s = c .before .before .before .before .before .before .before .before .before .before in
+    let a = s .args in
+    s .pre .1 .1 ∙ ap (λ (l : List Entry). length (lostUnder (a .s .queue .config .settings .mode) l (gapsOf (a .gaps .now) (a .s .gaps)))) (c .pop-front .ensures .0)
 
 -- no more are lost than there are
-few : (c : tie.After-lost-below) → c .lost-below .result ≤ c .before .before .before .before .before .before .before .before .before .before .before .before .before .before .before .before .before .before .args .s .gaps
+few : (c : tie.After-pop-front) → (let a = c .before .before .before .before .before .before .before .before .before .before .args in a .lost ≤ a .s .gaps)
 few c =
-    let s = c .before .before .before .before .before .before .before .before .before .before .before .before .before .before .before .before .before .before in
-    lost-few (s .args .s .queue .config .settings .mode) (s .args .gaps .now) (s .args .s .gaps) (c .before .before .before .before .before .before .before .before .pop-front .result .number) (c .lost-below .result) (s .pre .0 .ascend) (c .lost-below .ensures)
+    let s = c .before .before .before .before .before .before .before .before .before .before in
+    let a = s .args in
+    lost-few (a .s .queue .config .settings .mode) (a .gaps .now) (a .s .gaps) (c .pop-front .result .number) (a .lost) (s .pre .0 .ascend) (below c)
 
 remember-requires : tie.Need-remember-requires
 remember-requires c κs =
-    let h = c .before .before .before .before .before .before .before .before .before .before .before .before .before .before .before .before .before .before .before .before .pre .0 in
-    (h .remembered-in, ((h .few, h .room), omega (arith, few (c .before .before), h .gaps-in .room)))
+    let h = c .before .before .before .before .before .before .before .before .before .before .before .before .before .before .before .before .before .before .pre .0 in
+    (h .remembered-in, ((h .few, h .room), omega (arith, few (c .before .before .before .before .before .before .before .before), h .gaps-in .room)))
 
 take-front-requires : tie.Need-take-front-requires
-take-front-requires c κs = (c .before .before .before .before .before .before .before .before .before .before .before .before .before .before .before .before .before .before .before .before .before .before .before .before .pre .0 .gaps-in, few (c .before .before .before .before .before .before))
+take-front-requires c κs = (c .before .before .before .before .before .before .before .before .before .before .before .before .before .before .before .before .before .before .before .before .before .before .pre .0 .gaps-in, few (c .before .before .before .before .before .before .before .before .before .before .before .before))
 
 handed-out-requires : tie.Need-handed-out-requires
-handed-out-requires c κs = omega (arith, few (c .before .before .before .before .before .before .before .before .before), c .before .before .before .before .before .before .before .before .before .before .before .before .before .before .before .before .before .before .before .before .before .before .before .before .before .before .before .pre .0 .lost-fits)
+handed-out-requires c κs = omega (arith, few (c .before .before .before .before .before .before .before .before .before .before .before .before .before .before .before), c .before .before .before .before .before .before .before .before .before .before .before .before .before .before .before .before .before .before .before .before .before .before .before .before .before .pre .0 .lost-fits)
 
-sub-t30 : tie.Need-sub-t30
-sub-t30 c = c .before .before .before .before .before .before .before .before .before .before .before .before .before .before .before .before .before .before .before .before .before .before .before .before .before .before .before .before .before .pre .0 .some
+sub-t28 : tie.Need-sub-t28
+sub-t28 c = c .before .before .before .before .before .before .before .before .before .before .before .before .before .before .before .before .before .before .before .before .before .before .before .before .before .before .before .pre .0 .some
 
-sub-t31 : tie.Need-sub-t31
-sub-t31 c = few (c .before .before .before .before .before .before .before .before .before .before .before .before)
+sub-t29 : tie.Need-sub-t29
+sub-t29 c = few (c .before .before .before .before .before .before .before .before .before .before .before .before .before .before .before .before .before .before)
 
 packet-requires : tie.Need-packet-requires
 packet-requires c κs = search needs
 
 same-length : tie.Need-same-length
-same-length c = c .before .before .before .before .before .before .before .before .before .before .before .before .before .before .before .before .before .before .before .before .entries .given
+same-length c = c .before .before .before .before .before .before .before .before .before .before .before .before .before .before .before .before .before .before .entries .given
 
 same-length-2 : tie.Need-same-length-2
-same-length-2 c = c .before .before .before .before .before .before .before .before .before .before .before .before .before .before .before .before .before .before .payloads .given
+same-length-2 c = c .before .before .before .before .before .before .before .before .before .before .before .before .before .before .before .before .payloads .given
 
 same-length-3 : tie.Need-same-length-3
 same-length-3 c = search needs
@@ -54,36 +66,20 @@ same-length-4 : tie.Need-same-length-4
 same-length-4 c = c .before .before .before .before .before .before .before .before .before .remembered .given
 
 same-length-5 : tie.Need-same-length-5
-same-length-5 c = c .before .before .before .before .before .before .before .before .before .before .before .before .before .before .before .before .out .given
+same-length-5 c = c .before .before .before .before .before .before .before .before .before .before .before .before .before .before .out .given
 
 returns : tie.Need-returns
 unfolding pollAnswer handed
 returns c =
-    let s = c .before .before .before .before .before .before .before .before .before .before .before .before .before .before .before .before .before .before .before .before .before .before .before .before .before .before .before .before .before .before .before in
+    let s = c .before .before .before .before .before .before .before .before .before .before .before .before .before .before .before .before .before .before .before .before .before .before .before .before .before .before .before .before .before in
     let a = s .args in
     let h = s .pre .0 in
-    let o = c .before .before .before .before .before .before .before .before .before .before .before .before .before .before .before .before .before .before .before .before .before .pop-front in
+    let o = c .before .before .before .before .before .before .before .before .before .before .before .before .before .before .before .before .before .before .before .pop-front in
     let t = o .ensures .0 in
     let size = payload-size (o .result .size) (a .payloads .now) (a .s .entries) (h .entries-in .places) (h .some) (o .ensures .1 .1 .1 .1) in (
-      handed-leaves (a .s) (a .entries .now) (a .payloads .now) (a .gaps .now) (a .remembered .now) (h .ascend) (o .result) _ t (c .before .before .before .before .before .before .before .before .before .before .before .before .before .lost-below .result) (c .before .before .before .before .before .before .before .before .before .before .before .before .before .lost-below .ensures) _ _ _ _ _ _ (c .before .before .before .handed-out .ensures) (c .before .before .before .before .before .before .before .before .before .before .remember .ensures .0) (o .ensures .1 .0) (o .ensures .1 .1 .0) (c .before .before .before .before .before .before .take-front .ensures) (c .before .before .before .before .before .before .before .before .before .before .remember .ensures .1),
+      handed-leaves (a .s) (a .entries .now) (a .payloads .now) (a .gaps .now) (a .remembered .now) (h .ascend) (o .result) _ t (a .lost) (below (c .before .before .before .before .before .before .before .before .before .before .before .before .before .before .before .before .before .before .before)) _ _ _ _ _ _ (c .before .before .before .handed-out .ensures) (c .before .before .before .before .before .before .before .before .before .before .remember .ensures .0) (o .ensures .1 .0) (o .ensures .1 .1 .0) (c .before .before .before .before .before .before .take-front .ensures) (c .before .before .before .before .before .before .before .before .before .before .remember .ensures .1),
       (rw t (ap packet (c .packet .ensures _ size)), o .ensures .1 .1 .1 .0),
     )
 
 pub hand-out-spec : {M : Type 1} → statement M
-hand-out-spec =
-    tie.close
-    (tie.spec
-    pop-front-requires
-    lost-below-requires
-    remember-requires
-    take-front-requires
-    handed-out-requires
-    sub-t30
-    sub-t31
-    packet-requires
-    same-length
-    same-length-2
-    same-length-3
-    same-length-4
-    same-length-5
-    returns)
+hand-out-spec = tie.close (tie.spec pop-front-requires remember-requires take-front-requires handed-out-requires sub-t28 sub-t29 packet-requires same-length same-length-2 same-length-3 same-length-4 same-length-5 returns)

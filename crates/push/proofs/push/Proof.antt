@@ -1,7 +1,6 @@
 -- `push` meets its contract: the checks before the datagram, the datagram's own, and then `push_packet`.
 use Rattle.storage.proofs.Settled.{passed-16}
-use Rattle.push.proofs.Turned.{payload-is}
-use Rattle.push.proofs.Pushing.{media-early, media-unread, media-read}
+use Rattle.push.proofs.Pushing.{payload-is, media-early, media-unread, media-read}
 use Rattle.push.specs.Answers.{mediaAnswer}
 use Rattle.storage.specs.Stored.{stored}
 use Rattle.model.proofs.SoundQueue.{clock-of}

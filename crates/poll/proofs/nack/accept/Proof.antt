@@ -5,17 +5,16 @@ use borrow.Author.Needs.{needs}
 use Rattle.poll.proofs.nack.accept.Statement.{statement}
 use Rattle.poll.proofs.nack.accept.Tie as tie
 
-nack-timings-requires : tie.Need-nack-timings-requires
-nack-timings-requires c κs = let h = c .before .before .pre .0 in (h .settings, h .estimate)
-
 drain-requires : tie.Need-drain-requires
-drain-requires c κs = (c .before .before .before .before .pre .0 .gaps-in, c .before .before .before .before .pre .0 .lost-fits)
+drain-requires c κs = let h = c .before .before .before .pre .0 in (h .gaps-in, (h .given-are, h .lost-fits))
 
 poll-nacks-requires : tie.Need-poll-nacks-requires
 poll-nacks-requires c κs =
-    let s = c .before .before .before .before .before .before .before .before .before in (
-      left-held (s .args .instant) (s .args .s) (s .args .gaps .now) _ (s .pre .0) _ (c .before .before .before .before .drain .ensures .0) (c .before .before .before .before .drain .ensures .1) _ (c .before .before .before .before .before .before .nack-timings .ensures .0),
-      (left-fits (s .args .instant) (s .args .s) (s .args .gaps .now) _ (s .pre .0) _ (c .before .before .before .before .drain .ensures .0) (c .before .before .before .before .drain .ensures .1) _ (c .before .before .before .before .before .before .nack-timings .ensures .0) (s .args .out .now) (s .pre .1), (left-instants (s .args .instant) (s .args .s) (s .args .gaps .now) _ (s .pre .0) _ (c .before .before .before .before .drain .ensures .0) (c .before .before .before .before .drain .ensures .1) _ (c .before .before .before .before .before .before .nack-timings .ensures .0), (left-none-full (s .args .instant) (s .args .s) (s .args .gaps .now) _ (s .pre .0) _ (c .before .before .before .before .drain .ensures .0) (c .before .before .before .before .drain .ensures .1) _ (c .before .before .before .before .before .before .nack-timings .ensures .0), c .before .before .before .before .before .before .nack-timings .ensures .1))),
+    let s = c .before .before .before .before .before .before .before .before in
+    let a = s .args in
+    let d = c .before .before .before .before .drain .ensures in (
+      left-held (a .instant) (a .s) (a .gaps .now) _ (a .given) (a .timings) (s .pre .0) _ (d .0) (d .1),
+      (left-fits (a .instant) (a .s) (a .gaps .now) _ (a .given) (a .timings) (s .pre .0) _ (d .0) (d .1) (a .out .now) (s .pre .1), (left-instants (a .instant) (a .s) (a .gaps .now) _ (a .given) (a .timings) (s .pre .0) _ (d .0) (d .1), (left-none-full (a .instant) (a .s) (a .gaps .now) _ (a .given) (a .timings) (s .pre .0) _ (d .0) (d .1), s .pre .0 .small))),
     )
 
 answer-of-requires : tie.Need-answer-of-requires
@@ -29,20 +28,13 @@ same-length-2 c = c .before .before .out .given
 
 returns : tie.Need-returns
 returns c =
-    let s = c .before .before .before .before .before .before .before .before .before .before .before .before .before .before .before in
+    let s = c .before .before .before .before .before .before .before .before .before .before .before .before .before .before in
+    let a = s .args in
+    let d = c .before .before .before .before .before .before .before .before .before .before .drain .ensures in
     let p = c .before .before .before .before .before .poll-nacks .ensures in (
-      c .before .before .before .before .before .before .before .before .before .before .drain .ensures .0,
-      (c .answer-of .ensures _ (left-count (s .args .instant) (s .args .s) (s .args .gaps .now) _ (s .pre .0) _ (c .before .before .before .before .before .before .before .before .before .before .drain .ensures .0) (c .before .before .before .before .before .before .before .before .before .before .drain .ensures .1) _ (c .before .before .before .before .before .before .before .before .before .before .before .before .nack-timings .ensures .0) _ (p .0)), (left-words (s .args .instant) (s .args .s) (s .args .gaps .now) _ (s .pre .0) _ (c .before .before .before .before .before .before .before .before .before .before .drain .ensures .0) (c .before .before .before .before .before .before .before .before .before .before .drain .ensures .1) _ (c .before .before .before .before .before .before .before .before .before .before .before .before .nack-timings .ensures .0) _ (p .1 .0), left-out (s .args .instant) (s .args .s) (s .args .gaps .now) _ (s .pre .0) _ (c .before .before .before .before .before .before .before .before .before .before .drain .ensures .0) (c .before .before .before .before .before .before .before .before .before .before .drain .ensures .1) _ (c .before .before .before .before .before .before .before .before .before .before .before .before .nack-timings .ensures .0) (s .args .out .now) _ (p .1 .1))),
+      d .0,
+      (c .answer-of .ensures _ (left-count (a .instant) (a .s) (a .gaps .now) _ (a .given) (a .timings) (s .pre .0) _ (d .0) (d .1) _ (p .0)), (left-words (a .instant) (a .s) (a .gaps .now) _ (a .given) (a .timings) (s .pre .0) _ (d .0) (d .1) _ (p .1 .0), left-out (a .instant) (a .s) (a .gaps .now) _ (a .given) (a .timings) (s .pre .0) _ (d .0) (d .1) (a .out .now) _ (p .1 .1))),
     )
 
 pub accept-spec : {M : Type 1} → statement M
-accept-spec =
-    tie.close
-    (tie.spec
-    nack-timings-requires
-    drain-requires
-    poll-nacks-requires
-    answer-of-requires
-    same-length
-    same-length-2
-    returns)
+accept-spec = tie.close (tie.spec drain-requires poll-nacks-requires answer-of-requires same-length same-length-2 returns)

@@ -1,7 +1,7 @@
 -- `push_rtx` meets its contract: the checks before the datagram, the datagram's own, and then `push_repair`.
 use Rattle.push.proofs.Repairing.{repair-early, repair-unread, repair-read}
 use Rattle.storage.proofs.Settled.{passed-16}
-use Rattle.push.proofs.Turned.{payload-is}
+use Rattle.push.proofs.Pushing.{payload-is}
 use Rattle.push.specs.Answers.{repairAnswer}
 use Rattle.storage.specs.Stored.{stored}
 use Rattle.rtp_packet.proofs.Bounds.{payload-fits}
