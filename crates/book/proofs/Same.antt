@@ -10,7 +10,6 @@ use lib.Dec.{T, T-not, leb, ltb}
 use lib.ListN.{length, length-map, drop}
 use lib.Ieee.Bits.{is-true, is-false}
 use Rattle.rtp.specs.declared.opt.Opt.{Opt}
-use Rattle.rtp.specs.declared.opt.Opt.the-variants.{None, Some}
 use Rattle.rtp_packet.specs.Header.{sequenceNumber, payloadOf}
 use Rattle.rtp_packet.specs.Original.{originalNumber}
 use Rattle.rtx_state.specs.Repair as Rtx

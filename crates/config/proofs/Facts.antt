@@ -1,4 +1,4 @@
--- What valid settings and senders are, as facts: the tests are conjunctions, so each part holds. The delays of valid settings are below 2 ^ 54.
+-- What valid settings are, as facts: the test is a conjunction, so each part holds. Their delays are below 2 ^ 54.
 use mathlib.Core.Bool.{Bool, _&&_}
 use Prim.Native.Nat.{ℕ, _≤_, _<_, _^_}
 use native.Mathlib.Omega.{arith}
@@ -9,9 +9,8 @@ use Rattle.rtx_state.specs.declared.OptRtt.{OptRtt}
 use Rattle.rtx_state.specs.declared.OptRtt.the-variants.{None, Some}
 use Rattle.rtx_state.proofs.Range.{delay-lt}
 use Rattle.config.specs.Timings.{resendDelayOf}
-use Rattle.config.specs.Valid.{within, longest, settingsValid, sendersValid}
+use Rattle.config.specs.Valid.{within, longest, settingsValid}
 use Rattle.config.specs.declared.Settings.{Settings}
-use Rattle.config.specs.declared.Senders.{Senders}
 
 pub record Usable (s : Settings) : Type 0 where
   pub rate-some : 1 ≤ s .«clock_rate»
@@ -72,10 +71,6 @@ usable s t =
       attempts-some = attempts .0;
       attempts = attempts .1;
     }
-
-pub payload-types : (s : Senders) → T (sendersValid s) → (s .pt ≤ 127) × (s .«rtx_pt» ≤ 127)
-unfolding sendersValid
-payload-types s h = (leb→le (s .pt) 127 (and-l (leb (s .pt) 127) (leb (s .«rtx_pt») 127) h), leb→le (s .«rtx_pt») 127 (and-r (leb (s .pt) 127) (leb (s .«rtx_pt») 127) h))
 
 pub resend-lt : (s : Settings) (rtt : OptRtt) → s .«default_nack_resend_delay» ≤ longest → T (optRttInRange rtt) → resendDelayOf s rtt < 2 ^ 54
 unfolding resendDelayOf optRttInRange

@@ -2,7 +2,7 @@
 -- in at the rank of its number (`sorted-at`).
 use mathlib.Core.Path.{_≡_, refl, sym, ap, _∙_}
 use mathlib.Core.Bool.{Bool, true, false, cond}
-use mathlib.Core.List.{List, [], _∷_, _++_, map, zipWith}
+use mathlib.Core.List.{List, [], _∷_, _++_, zipWith}
 use Prim.Native.Nat.{ℕ, zero, suc, _+_, _*_, _-_, _/_, _%_, _≤_, _<_}
 use native.Mathlib.Numerals.{add-one}
 use native.Mathlib.Omega.{arith}
@@ -11,11 +11,12 @@ use lib.ListN.{length, take, drop, getD, replicate, length-take, length-drop}
 use lib.Seq.{drop-drop, getD-take, take-take, take-suc, length-take-le}
 use borrow.Author.Tests.{ltb-true, ltb-false, leb-true, le-leb, lt-leb}
 use Rattle.words.specs.Words.{over, padded, cut, inserted}
-use Rattle.words.specs.Blocks.{blocks, firsts, Even, laid}
+use Rattle.words.specs.Blocks.{blocks, firsts, laid}
 use Rattle.words.specs.Order.{ascends, rank}
 use Rattle.words.proofs.Over.{take-over}
 use Rattle.words.proofs.Moves.{length-padded}
 use Rattle.words.proofs.Blocked.{word-at, length-firsts}
+use Rattle.words.proofs.Records.{Holds, holds-drop, holds-inserted, holds-replaced}
 use Rattle.words.proofs.Ordered.{and-left, and-right, rank-le}
 use Rattle.rtp.specs.declared.opt.Opt.{Opt}
 use Rattle.rtp.specs.declared.opt.Opt.the-variants.{Some}
@@ -24,8 +25,7 @@ use Rattle.model.specs.Records.{Entry, entryNumbers}
 use Rattle.model.specs.Push.{insertSorted}
 use Rattle.model.specs.Storage.{ENTRY-WORDS, PAYLOAD-BYTES, arrivalWord, arrivalOf, bit, entryWords, payloadBytes, entryOf, entriesOf}
 use Rattle.model.proofs.Lists.{Each, none, more}
-use Rattle.model.proofs.Laid.{Fits, even-words, even-payloads, entry-wide, padded-self, length-entriesOf}
-use Rattle.model.proofs.Kept.{kept-drop, kept-inserted, kept-replaced}
+use Rattle.model.proofs.Laid.{Fits, even-payloads, entry-wide, entries-held, padded-self, length-entriesOf}
 use Rattle.packet_gaps.proofs.Turns.{every-at}
 use Rattle.entries.specs.declared.Entry as Row
 use Rattle.entries.specs.Entries.{EntriesIn, Incoming, entry, fits, firstNumber}
@@ -65,6 +65,18 @@ pub each-fits : (es : List Entry) → every? fits es ≡ true → Each Fits es
 unfolding every? Fits
 each-fits [] e = none
 each-fits (x ∷ es) e = more (leb-true (length (x .payload)) PAYLOAD-BYTES (and-left (fits x) (every? fits es) e)) (each-fits es (and-right (fits x) (every? fits es) e))
+
+-- both slices hold the entries
+pub payloads-held : {cap n : ℕ} {s : List ℕ} {es : List Entry} → every? fits es ≡ true → s ≡ laid payloadBytes cap es → length es ≡ n → PAYLOAD-BYTES * n ≤ cap
+    → Holds PAYLOAD-BYTES cap payloadBytes s n es
+payloads-held {es = es} f e l h = record { is = e; even = even-payloads es (each-fits es f); count = l; room = h }
+
+module _ (words bytes : List ℕ) (n : ℕ) (k : EntriesIn words bytes n) where
+  words-held : Holds ENTRY-WORDS (length words) entryWords words n (entriesOf words bytes n)
+  words-held = entries-held (k .held) (length-entriesOf words bytes n) (k .room)
+
+  bytes-held : Holds PAYLOAD-BYTES (length bytes) payloadBytes bytes n (entriesOf words bytes n)
+  bytes-held = payloads-held (k .fit) (k .filled) (length-entriesOf words bytes n) (k .places)
 
 -- ---- the place of a number
 
@@ -106,41 +118,23 @@ module _ (words bytes : List ℕ) (n : ℕ) where
         ∙ ap (λ (k : ℕ). inserted k (e ∷ []) (entriesOf words bytes n)) (ap (rank (e .number)) (entry-numbers words bytes n) ∙ sym er)
 
     module _ (k : EntriesIn words bytes n) where
-      es : List Entry
-      es = entriesOf words bytes n
-
-      evens : Even ENTRY-WORDS (map entryWords es)
-      evens = even-words ENTRY-WORDS entryWords entry-wide es
-
-      places : Even PAYLOAD-BYTES (map payloadBytes es)
-      unfolding es
-      places = even-payloads es (each-fits es (k .fit))
-
       pub words-inserted : over (inserted (ENTRY-WORDS * r) (entryWords e) (take (ENTRY-WORDS * n) words)) words ≡ laid entryWords (length words) (insertSorted e (entriesOf words bytes n))
-      unfolding es
-      words-inserted =
-          kept-inserted ENTRY-WORDS (length words) n entryWords es words (k .held) evens (length-entriesOf words bytes n) (k .room) r e rank-in
-          ∙ ap (laid entryWords (length words)) (sym sorted-is)
+      words-inserted = holds-inserted (words-held words bytes n k) r e rank-in ∙ ap (laid entryWords (length words)) (sym sorted-is)
 
       pub bytes-inserted : over (inserted (PAYLOAD-BYTES * r) (payloadBytes e) (take (PAYLOAD-BYTES * n) bytes)) bytes ≡ laid payloadBytes (length bytes) (insertSorted e (entriesOf words bytes n))
-      unfolding es
-      bytes-inserted =
-          kept-inserted PAYLOAD-BYTES (length bytes) n payloadBytes es bytes (k .filled) places (length-entriesOf words bytes n) (k .places) r e rank-in
-          ∙ ap (laid payloadBytes (length bytes)) (sym sorted-is)
+      bytes-inserted = holds-inserted (bytes-held words bytes n k) r e rank-in ∙ ap (laid payloadBytes (length bytes)) (sym sorted-is)
 
       -- not the first: the first goes out
       module _ (p : 0 < r) where
         pub words-replaced : drop ENTRY-WORDS (inserted (ENTRY-WORDS * r) (entryWords e) words) ≡ laid entryWords (length words) (drop 1 (insertSorted e (entriesOf words bytes n)))
-        unfolding es
         words-replaced =
-            kept-replaced ENTRY-WORDS (length words) n entryWords es words (k .held) evens (length-entriesOf words bytes n) (k .room) r e (entry-wide e) p rank-in
+            holds-replaced (words-held words bytes n k) r e (entry-wide e) p rank-in
             ∙ ap (λ (l : List Entry). laid entryWords (length words) (drop 1 l)) (sym sorted-is)
 
         pub bytes-replaced : length (payloadBytes e) ≡ PAYLOAD-BYTES
             → drop PAYLOAD-BYTES (inserted (PAYLOAD-BYTES * r) (payloadBytes e) bytes) ≡ laid payloadBytes (length bytes) (drop 1 (insertSorted e (entriesOf words bytes n)))
-        unfolding es
         bytes-replaced w =
-            kept-replaced PAYLOAD-BYTES (length bytes) n payloadBytes es bytes (k .filled) places (length-entriesOf words bytes n) (k .places) r e w p rank-in
+            holds-replaced (bytes-held words bytes n k) r e w p rank-in
             ∙ ap (λ (l : List Entry). laid payloadBytes (length bytes) (drop 1 l)) (sym sorted-is)
 
         pub first-out : getD words 0 0 ≡ firstNumber (insertSorted e (entriesOf words bytes n))
@@ -164,12 +158,10 @@ module _ (words bytes : List ℕ) (n : ℕ) where
 
 module _ (words bytes : List ℕ) (n : ℕ) (k : EntriesIn words bytes n) (h : 0 < n) where
   pub words-dropped : over (cut 0 ENTRY-WORDS (take (ENTRY-WORDS * n) words) ++ replicate ENTRY-WORDS 0) words ≡ laid entryWords (length words) (drop 1 (entriesOf words bytes n))
-  words-dropped =
-      kept-drop ENTRY-WORDS (length words) n entryWords (entriesOf words bytes n) words (k .held) (even-words ENTRY-WORDS entryWords entry-wide (entriesOf words bytes n)) (length-entriesOf words bytes n) (k .room) 1 h
+  words-dropped = holds-drop (words-held words bytes n k) 1 h
 
   pub bytes-dropped : over (cut 0 PAYLOAD-BYTES (take (PAYLOAD-BYTES * n) bytes) ++ replicate PAYLOAD-BYTES 0) bytes ≡ laid payloadBytes (length bytes) (drop 1 (entriesOf words bytes n))
-  bytes-dropped =
-      kept-drop PAYLOAD-BYTES (length bytes) n payloadBytes (entriesOf words bytes n) bytes (k .filled) (even-payloads (entriesOf words bytes n) (each-fits (entriesOf words bytes n) (k .fit))) (length-entriesOf words bytes n) (k .places) 1 h
+  bytes-dropped = holds-drop (bytes-held words bytes n k) 1 h
 
 -- ---- an entry of the code
 

@@ -1,13 +1,13 @@
 -- What the contracts of this crate say, in the terms of the queue's definitions; and how one call's result meets the next one's demand.
 use mathlib.Core.Path.{_≡_, ap, _∙_}
 use mathlib.Core.Bool.{Bool, true, _&&_, not}
-use mathlib.Core.List.{List, map, zipWith}
+use mathlib.Core.List.{List}
 use Prim.Native.Nat.{ℕ, _*_, _≤_}
 use native.Mathlib.Omega.{arith}
 use lib.Dec.{leb}
-use lib.ListN.{length, length-map}
+use lib.ListN.{length}
 use Rattle.words.specs.Blocks.{laid}
-use Rattle.words.proofs.Blocked.{blocks-padded}
+use Rattle.words.proofs.Records.{Holds, holds-length, holds-blocks}
 use Rattle.words.proofs.Ordered.{and-right}
 use Rattle.durations.specs.Seconds.{largest}
 use Rattle.rtp_packet.specs.Datagram.{LARGEST-PAYLOAD}
@@ -16,17 +16,14 @@ use Rattle.model.specs.Lists.{some?, every?}
 use Rattle.model.specs.Records.{Entry, Gap, highestOf}
 use Rattle.model.specs.Rules.{is}
 use Rattle.model.specs.Valid.{atMost, byClock, notPassed, entrySound}
-use Rattle.model.specs.Storage.{ENTRY-WORDS, PAYLOAD-BYTES, entryWords, payloadBytes, entryOf, entriesOf, entriesLaid, payloadsLaid}
-use Rattle.model.proofs.Laid.{even-words, even-payloads, entry-wide, entriesOf-laid}
-use Rattle.model.proofs.Laid as Laid
-use Rattle.model.proofs.Lists.{Each}
-use Rattle.model.proofs.Kept.{kept-length, kept-blocks}
+use Rattle.model.specs.Storage.{ENTRY-WORDS, PAYLOAD-BYTES, entryWords, payloadBytes, entriesOf}
+use Rattle.model.proofs.Laid.{entries-held, entries-back}
 use Rattle.packet_gaps.specs.Sound.{boundsOf}
 use Rattle.packet_gaps.proofs.Model.{passed-is, every-same}
 use Rattle.packet_gaps.proofs.Turns.{every-weaker}
 use Rattle.entries.specs.Entries.{EntriesIn, fits}
 use Rattle.entries.specs.Sound.{entryWithin}
-use Rattle.entries.proofs.Laws.{each-fits}
+use Rattle.entries.proofs.Laws.{each-fits, payloads-held}
 
 -- ---- check 16
 
@@ -52,31 +49,30 @@ sound-fits q gaps es s = every-weaker (entrySound q gaps) fits one es s
         let l : Bool = leb (length (e .payload)) LARGEST-PAYLOAD in
         and-right c l (and-right t (c && l) (and-right m (t && (c && l)) (and-right p (m && (t && (c && l))) (and-right a (p && (m && (t && (c && l)))) f))))
 
--- whatever the room, what is read of the places is the words and bytes of the entries
-entries-back : (l : List Entry) → Each Laid.Fits l → zipWith entryOf (map entryWords l) (map payloadBytes l) ≡ l
-unfolding entriesOf entriesLaid payloadsLaid
-entries-back l f =
-    rw (← (blocks-padded ENTRY-WORDS 0 (length l) (map entryWords l) (even-words ENTRY-WORDS entryWords entry-wide l) (length-map l entryWords)), ← (blocks-padded PAYLOAD-BYTES 0 (length l) (map payloadBytes l) (even-payloads l f) (length-map l payloadBytes)))
-    (entriesOf-laid 0 l f)
-
 -- ---- from one call to the next: slices in which a list was laid down hold it
 
 module _ (cap room n : ℕ) (es : List Entry) (words bytes : List ℕ) (ew : words ≡ laid entryWords cap es) (eb : bytes ≡ laid payloadBytes room es) (f : every? fits es ≡ true)
     (l : length es ≡ n) (hw : ENTRY-WORDS * n ≤ cap) (hb : PAYLOAD-BYTES * n ≤ room) where
+  words-held : Holds ENTRY-WORDS cap entryWords words n es
+  words-held = entries-held ew l hw
+
+  bytes-held : Holds PAYLOAD-BYTES room payloadBytes bytes n es
+  bytes-held = payloads-held f eb l hb
+
   pub laid-is : entriesOf words bytes n ≡ es
   unfolding entriesOf
   laid-is =
       rw (
-        kept-blocks ENTRY-WORDS cap n entryWords es words ew (even-words ENTRY-WORDS entryWords entry-wide es) l hw,
-        kept-blocks PAYLOAD-BYTES room n payloadBytes es bytes eb (even-payloads es (each-fits es f)) l hb,
+        holds-blocks words-held,
+        holds-blocks bytes-held,
       )
       (entries-back es (each-fits es f))
 
   pub laid-words : length words ≡ cap
-  laid-words = kept-length ENTRY-WORDS cap n entryWords es words ew (even-words ENTRY-WORDS entryWords entry-wide es) l hw
+  laid-words = holds-length words-held
 
   pub laid-bytes : length bytes ≡ room
-  laid-bytes = kept-length PAYLOAD-BYTES room n payloadBytes es bytes eb (even-payloads es (each-fits es f)) l hb
+  laid-bytes = holds-length bytes-held
 
   pub laid-in : EntriesIn words bytes n
   laid-in =

@@ -2,24 +2,23 @@
 -- behind the others, but for the oldest beyond 1,024.
 use mathlib.Core.Path.{_≡_, refl, sym, ap, _∙_}
 use mathlib.Core.Bool.{Bool, true, false, cond, _&&_, not}
-use mathlib.Core.List.{List, [], _∷_, _++_, map}
+use mathlib.Core.List.{List, [], _∷_, _++_}
 use Prim.Native.Nat.{ℕ, suc, _+_, _*_, _-_, _≤_, _<_}
 use native.Mathlib.Omega.{arith}
 use lib.Dec.{eqb, leb}
-use lib.ListN.{length, take, drop, getD, replicate, List·getD-map, drop-of-length-le}
+use lib.ListN.{length, take, drop, getD, replicate, drop-of-length-le}
 use borrow.Author.Tests.{eq-eqb, ne-eqb, le-leb, lt-leb}
 use Rattle.words.specs.Words.{over, padded, cut}
-use Rattle.words.specs.Blocks.{blocks, Even, laid, recordsOf}
-use Rattle.words.proofs.Blocked.{block-at, word-at}
-use Rattle.words.proofs.Records.{Coded, tidied-laid}
+use Rattle.words.specs.Blocks.{laid, recordsOf}
+use Rattle.words.proofs.Blocked.{word-at}
+use Rattle.words.proofs.Records.{tidied-laid, record-at, holds-cut}
 use Rattle.rtp.specs.declared.opt.Opt.the-variants.{None, Some}
 use Rattle.durations.specs.Seconds.{largest}
 use Rattle.model.specs.Lists.{keep, leading, every?}
 use Rattle.model.specs.Records.{Gap, Remembered}
 use Rattle.model.specs.Rules.{isOf, forgetFirst}
 use Rattle.model.specs.Storage.{GAP-WORDS, REMEMBERED-WORDS, rememberedWords, rememberedOfWords, rememberedOf, gapOfWords, gapsOf}
-use Rattle.model.proofs.Laid.{even-words, remembered-wide, length-rememberedOf, length-gapsOf}
-use Rattle.model.proofs.Kept.{kept-cut}
+use Rattle.model.proofs.Laid.{remembered-held, remembered-coded, length-rememberedOf, length-gapsOf}
 use Rattle.packet_gaps.proofs.Laws.{noGap, read-is}
 use Rattle.packet_gaps.proofs.Turns.{drop-next, leading-none, leading-more, leading-end}
 use Rattle.lost_nacked.specs.Remembered.{RememberedIn, apart, instantOf, once, rememberedBy}
@@ -31,26 +30,15 @@ noOne = rememberedOfWords []
 
 pub remembered-at : (s : List ℕ) (n i : ℕ) → i < n
     → getD (rememberedOf s n) i noOne ≡ record { number = getD s (REMEMBERED-WORDS * i) 0; nackedAt = getD s (REMEMBERED-WORDS * i + 1) 0 }
-unfolding rememberedOf rememberedOfWords
+unfolding rememberedOf recordsOf rememberedOfWords
 remembered-at s n i h =
     let z : REMEMBERED-WORDS * i + 0 ≡ REMEMBERED-WORDS * i = omega arith in
     let number : getD (take REMEMBERED-WORDS (drop (REMEMBERED-WORDS * i) s)) 0 0 ≡ getD s (REMEMBERED-WORDS * i) 0 = word-at REMEMBERED-WORDS i 0 s (omega arith) ∙ ap (λ (k : ℕ). getD s k 0) z in
-    List·getD-map rememberedOfWords (blocks REMEMBERED-WORDS s n) i [] ∙ ap rememberedOfWords (block-at REMEMBERED-WORDS n s i h) ∙ rw (number, word-at REMEMBERED-WORDS i 1 s (omega arith))
-
--- words and records take each other back
-pub coded : Coded REMEMBERED-WORDS rememberedOfWords rememberedWords
-unfolding rememberedOfWords rememberedWords
-coded = record { wide = λ r. refl; back = λ r. refl; forth = forth }
-  where
-    forth : (b : List ℕ) → length b ≡ REMEMBERED-WORDS → rememberedWords (rememberedOfWords b) ≡ b
-    forth [] l = absurd (omega arith)
-    forth (x ∷ []) l = absurd (omega arith)
-    forth (x ∷ y ∷ []) l = refl
-    forth (x ∷ y ∷ z ∷ b) l = absurd (omega arith)
+    record-at REMEMBERED-WORDS rememberedOfWords n s i h ∙ rw (number, word-at REMEMBERED-WORDS i 1 s (omega arith))
 
 pub tidied : (s : List ℕ) (n : ℕ) → REMEMBERED-WORDS * n ≤ length s → padded (length s) (take (REMEMBERED-WORDS * n) s) ≡ laid rememberedWords (length s) (rememberedOf s n)
 unfolding rememberedOf recordsOf
-tidied s n h = tidied-laid REMEMBERED-WORDS rememberedOfWords rememberedWords coded n s h
+tidied s n h = tidied-laid remembered-coded n s h
 
 -- ---- `position` and `forget`
 
@@ -102,9 +90,6 @@ module _ (x : ℕ) where
       go true ih l = absurd (omega arith)
       go false ih l = let y = ih (omega arith) in (y .0, ap (λ (l : List Remembered). r ∷ l) (y .1))
 
-even-of : (rs : List Remembered) → Even REMEMBERED-WORDS (map rememberedWords rs)
-even-of rs = even-words REMEMBERED-WORDS rememberedWords remembered-wide rs
-
 module _ (s : List ℕ) (n x k : ℕ) (m : RememberedIn s n) (e : k ≡ length (leading (apart x) (rememberedOf s n))) where
   module _ (h : k < n) where
     all-found : (instantOf (keep (isOf x) (rememberedOf s n)) ≡ Some (getD (rememberedOf s n) k noOne .nackedAt)) × (forgetFirst x (rememberedOf s n) ≡ cut k 1 (rememberedOf s n))
@@ -115,7 +100,7 @@ module _ (s : List ℕ) (n x k : ℕ) (m : RememberedIn s n) (e : k ≡ length (
 
     pub forget-words : over (cut (REMEMBERED-WORDS * k) REMEMBERED-WORDS (take (REMEMBERED-WORDS * n) s) ++ replicate REMEMBERED-WORDS 0) s ≡ laid rememberedWords (length s) (forgetFirst x (rememberedOf s n))
     forget-words =
-        kept-cut REMEMBERED-WORDS (length s) n rememberedWords (rememberedOf s n) s (m .held) (even-of (rememberedOf s n)) (length-rememberedOf s n) (m .room) k 1 (omega arith)
+        holds-cut (remembered-held (m .held) (length-rememberedOf s n) (m .room)) k 1 (omega arith)
         ∙ ap (laid rememberedWords (length s)) (sym (all-found .1))
 
   module _ (h : n ≤ k) where

@@ -12,26 +12,24 @@ use borrow.Author.Tests.{leb-true, leb-false, eq-eqb, ne-eqb}
 use Rattle.words.specs.Words.{over, written, cut}
 use Rattle.words.specs.Blocks.{laid, recordsOf}
 use Rattle.words.proofs.Lists.{map-append, map-drop}
-use Rattle.words.proofs.Records.{records-laid}
+use Rattle.words.proofs.Records.{records-laid, holds-length, holds-drop, holds-pushed}
 use Rattle.model.specs.Lists.{keep}
 use Rattle.model.specs.Records.{Gap, Remembered}
 use Rattle.model.specs.Rules.{MAX-LOST-NACKED, latest, remember, rememberedAfter}
-use Rattle.model.specs.Storage.{GAP-WORDS, REMEMBERED-WORDS, rememberedWords, rememberedOfWords, rememberedOf, gapOfWords, gapsOf}
-use Rattle.model.proofs.Laid.{even-words, remembered-wide, length-rememberedOf, length-gapsOf}
-use Rattle.model.proofs.Kept.{kept-length, kept-drop, kept-pushed}
+use Rattle.model.specs.Storage.{GAP-WORDS, REMEMBERED-WORDS, rememberedWords, rememberedOf, gapOfWords, gapsOf}
+use Rattle.model.proofs.Laid.{remembered-held, remembered-coded, length-rememberedOf, length-gapsOf}
 use Rattle.packet_gaps.proofs.Laws.{noGap, read-is}
 use Rattle.packet_gaps.proofs.Writing.{keep-next, keep-skip, keep-around}
 use Rattle.lost_nacked.specs.Remembered.{RememberedIn, once}
-use Rattle.lost_nacked.proofs.Laws.{coded}
 
 -- a slice in which a list was laid down holds it
 module _ (cap n : ℕ) (rs : List Remembered) (s : List ℕ) (e : s ≡ laid rememberedWords cap rs) (l : length rs ≡ n) (h : REMEMBERED-WORDS * n ≤ cap) where
   pub laid-is : rememberedOf s n ≡ rs
   unfolding rememberedOf recordsOf
-  laid-is = ap (λ (z : List ℕ). rememberedOf z n) e ∙ records-laid REMEMBERED-WORDS rememberedOfWords rememberedWords coded cap n rs l
+  laid-is = ap (λ (z : List ℕ). rememberedOf z n) e ∙ records-laid remembered-coded cap n rs l
 
   pub laid-length : length s ≡ cap
-  laid-length = kept-length REMEMBERED-WORDS cap n rememberedWords rs s e (even-words REMEMBERED-WORDS rememberedWords remembered-wide rs) l h
+  laid-length = holds-length (remembered-held e l h)
 
   pub laid-in : RememberedIn s n
   laid-in = record { room = omega (arith, laid-length); held = rw (laid-length, laid-is) e }
@@ -148,7 +146,7 @@ module _ (s₀ s : List ℕ) (n : ℕ) (gaps : List ℕ) (lost skip i left count
           let fit : REMEMBERED-WORDS * count + REMEMBERED-WORDS ≤ length s₀ = omega (arith, noting-room, c .same) in
           let held : u ≡ laid rememberedWords (length s₀) ys =
           w
-          ∙ kept-pushed REMEMBERED-WORDS (length s₀) count rememberedWords xs s (c .held) (even-words REMEMBERED-WORDS rememberedWords remembered-wide xs) lx (omega arith) (remember g)
+          ∙ holds-pushed (remembered-held (c .held) lx (omega arith)) (remember g)
           ∙ ap (laid rememberedWords (length s₀)) pushed in
           record {
             upto = omega arith;
@@ -211,7 +209,7 @@ module _ (s : List ℕ) (n : ℕ) (gaps : List ℕ) (lost more excess out : ℕ)
   module _ (u : List ℕ) (eu : u ≡ over (cut 0 (REMEMBERED-WORDS * out) (take (REMEMBERED-WORDS * n) s) ++ replicate (REMEMBERED-WORDS * out) 0) s) where
     drained : u ≡ laid rememberedWords (length s) (drop out rs)
     unfolding rs
-    drained = eu ∙ kept-drop REMEMBERED-WORDS (length s) n rememberedWords rs s (k .held) (even-words REMEMBERED-WORDS rememberedWords remembered-wide rs) length-rs (k .room) out (omega arith)
+    drained = eu ∙ holds-drop (remembered-held (k .held) length-rs (k .room)) out (omega arith)
 
     length-drained : length (drop out rs) ≡ n - out
     length-drained = length-drop out rs ∙ ap (λ (j : ℕ). j - out) length-rs

@@ -1,7 +1,6 @@
 -- Laws of the definitions of specs/.
 pub mod Lists
 pub mod Laid
-pub mod Kept
 pub mod Sound
 pub mod SoundTest
 pub mod SoundLists

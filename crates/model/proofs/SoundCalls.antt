@@ -3,7 +3,6 @@
 use mathlib.Core.Path.{_≡_, refl, sym, subst}
 use mathlib.Core.Logic.{inl}
 use mathlib.Core.Bool.{Bool, true, false, not, _&&_}
-use mathlib.Core.List.{List, [], _∷_}
 use Prim.Native.Nat.{ℕ, _*_, _≤_}
 use native.Mathlib.Omega.{arith}
 use lib.IntN.{pos}
@@ -28,7 +27,7 @@ use Rattle.model.specs.Calls.{Call, media, repair, poll, pollNack, timeo
 use Rattle.model.specs.Table.{refuseIf, configValid, sessionSound, sessionRefusal, callRefusal, refusal, openingRefusal}
 use Rattle.model.specs.Did.{accepted, did}
 use Rattle.model.proofs.Laid.{Fits, parse-write, lengths-write}
-use Rattle.model.proofs.Lists.{not-not, Each, none, more, each-imp, empty}
+use Rattle.model.proofs.Lists.{not-not, Each, none, each-imp, empty}
 use Rattle.model.specs.Working.{NeverLocksUp}
 use Rattle.model.proofs.Sound.{Returned, Sound}
 use Rattle.model.proofs.SoundTest.{sound-of, sound-to, fits-to, rate-of}

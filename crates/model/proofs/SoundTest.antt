@@ -24,7 +24,7 @@ use Rattle.model.specs.Records.{Entry, Gap, Remembered, State, entryNumb
 use Rattle.model.specs.Rules.{is, MAX-LOST-NACKED}
 use Rattle.model.specs.Valid.{atMost, under, notPassed, byClock, entrySound, gapSound, rememberedSound, lastSound, returnedSound, countersSound, queueSound, countsFit, sound}
 use Rattle.model.specs.Table.{configValid}
-use Rattle.model.proofs.Lists.{Each, each-imp, each-both, each-of-every, every-of-each, rising-of-ascends, ascends-of-rising, apart-of-not-some, not-some-of-apart}
+use Rattle.model.proofs.Lists.{each-imp, each-both, each-of-every, every-of-each, rising-of-ascends, ascends-of-rising, apart-of-not-some, not-some-of-apart}
 use Rattle.model.proofs.Sound.{Returned, reached-of, reached-to, under-of, under-to, ahead-of, ahead-to, returned-of, returned-to, by-of, by-to, GapIn, EntryIn, Apart, RememberedIn, CountersIn, RtxIn, QueueIn, Fits, Sound}
 
 -- ---- a chain of tests

@@ -2,7 +2,7 @@
 -- stands at its rank (`found-at`).
 use mathlib.Core.Path.{_≡_, refl, sym, ap, _∙_}
 use mathlib.Core.Bool.{Bool, true, false, cond, _||_, not, false≢true}
-use mathlib.Core.List.{List, [], _∷_, _++_, map}
+use mathlib.Core.List.{List, [], _∷_, _++_}
 use Prim.Native.Nat.{ℕ, zero, suc, _+_, _*_, _≤_, _<_}
 use native.Mathlib.Omega.{arith}
 use lib.Dec.{eqb, leb, ltb}
@@ -10,9 +10,10 @@ use lib.ListN.{length, take, drop, getD, replicate, length-map, List·getD-map}
 use lib.Seq.{length-take-le}
 use borrow.Author.Tests.{ltb-true, ltb-false, leb-true, leb-false, lt-ltb, le-ltb, ne-eqb}
 use Rattle.words.specs.Words.{over, cut}
-use Rattle.words.specs.Blocks.{blocks, firsts, Even, laid}
+use Rattle.words.specs.Blocks.{firsts, recordsOf, laid}
 use Rattle.words.specs.Order.{ascends, member, rank}
-use Rattle.words.proofs.Blocked.{block-at, word-at, length-firsts, first-at}
+use Rattle.words.proofs.Blocked.{word-at, length-firsts, first-at}
+use Rattle.words.proofs.Records.{Holds, record-at, records-firsts, holds-cut, holds-drop}
 use Rattle.words.proofs.Ordered.{and-left, and-right, ascends-lt, ascends-tail, rank-le, member-rank, member-past}
 use Rattle.durations.specs.Seconds.{largest}
 use Rattle.config.specs.declared.NackTimings.{NackTimings}
@@ -20,28 +21,23 @@ use Rattle.model.specs.Lists.{keep, some?, every?}
 use Rattle.model.specs.Records.{Gap, gapNumbers}
 use Rattle.model.specs.Rules.{is, below, gapOf, without, gapsBelow, gapsFrom}
 use Rattle.model.specs.Storage.{GAP-WORDS, gapWords, gapOfWords, gapsOf}
-use Rattle.model.proofs.Laid.{even-words, gap-wide, length-gapsOf}
-use Rattle.model.proofs.Kept.{kept-cut, kept-drop}
+use Rattle.model.proofs.Laid.{gaps-held, length-gapsOf}
 use Rattle.packet_gaps.specs.Gaps.{GapsIn, instantsFit, dueBy}
 use Rattle.packet_gaps.proofs.Turns.{every-at}
 
 -- ---- what is read
 
 pub gap-numbers : (s : List ℕ) (n : ℕ) → gapNumbers (gapsOf s n) ≡ firsts GAP-WORDS s n
-unfolding gapsOf firsts gapOfWords
-gap-numbers s n = go (blocks GAP-WORDS s n)
-  where
-    go : (bs : List (List ℕ)) → gapNumbers (map gapOfWords bs) ≡ map (λ (b : List ℕ). getD b 0 0) bs
-    go [] = refl
-    go (b ∷ bs) = ap (λ (l : List ℕ). getD b 0 0 ∷ l) (go bs)
+unfolding gapsOf recordsOf gapOfWords
+gap-numbers s n = records-firsts GAP-WORDS gapOfWords (λ (g : Gap). g .number) (λ b. refl) n s
 
 -- past the last place
 abbrev pub noGap : Gap
 noGap = gapOfWords []
 
 pub gap-at : (s : List ℕ) (n i : ℕ) → i < n → getD (gapsOf s n) i noGap ≡ gapOfWords (take GAP-WORDS (drop (GAP-WORDS * i) s))
-unfolding gapsOf
-gap-at s n i h = List·getD-map gapOfWords (blocks GAP-WORDS s n) i [] ∙ ap gapOfWords (block-at GAP-WORDS n s i h)
+unfolding gapsOf recordsOf
+gap-at s n i h = record-at GAP-WORDS gapOfWords n s i h
 
 -- by its four words
 pub gap-words : (s : List ℕ) (i : ℕ)
@@ -170,17 +166,17 @@ module _ (s : List ℕ) (n : ℕ) (a : ascends (gapNumbers (gapsOf s n)) ≡ tru
 
 -- ---- moves in a slice that holds n gaps
 
-even-gaps : (gs : List Gap) → Even GAP-WORDS (map gapWords gs)
-even-gaps gs = even-words GAP-WORDS gapWords gap-wide gs
-
 module _ (s : List ℕ) (n : ℕ) (k : GapsIn s n) where
+  all-held : Holds GAP-WORDS (length s) gapWords s n (gapsOf s n)
+  all-held = gaps-held (k .held) (length-gapsOf s n) (k .room)
+
   pub gaps-cut : (i j : ℕ) → i + j ≤ n
       → over (cut (GAP-WORDS * i) (GAP-WORDS * j) (take (GAP-WORDS * n) s) ++ replicate (GAP-WORDS * j) 0) s ≡ laid gapWords (length s) (cut i j (gapsOf s n))
-  gaps-cut = kept-cut GAP-WORDS (length s) n gapWords (gapsOf s n) s (k .held) (even-gaps (gapsOf s n)) (length-gapsOf s n) (k .room)
+  gaps-cut = holds-cut all-held
 
   pub gaps-drop : (j : ℕ) → j ≤ n
       → over (cut 0 (GAP-WORDS * j) (take (GAP-WORDS * n) s) ++ replicate (GAP-WORDS * j) 0) s ≡ laid gapWords (length s) (drop j (gapsOf s n))
-  gaps-drop = kept-drop GAP-WORDS (length s) n gapWords (gapsOf s n) s (k .held) (even-gaps (gapsOf s n)) (length-gapsOf s n) (k .room)
+  gaps-drop = holds-drop all-held
 
 -- ---- tests
 

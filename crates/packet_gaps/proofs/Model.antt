@@ -1,15 +1,15 @@
 -- What the contracts of this crate say, in the terms of the queue's definitions; and how one call's result meets the next one's demand.
 use mathlib.Core.Path.{_≡_, refl, sym, ap, _∙_}
 use mathlib.Core.Bool.{Bool, true, false, cond, _&&_}
-use mathlib.Core.List.{List, [], _∷_, _++_, map}
-use Prim.Native.Nat.{ℕ, zero, suc, _+_, _*_, _-_, _≤_}
+use mathlib.Core.List.{List, [], _∷_, map}
+use Prim.Native.Nat.{ℕ, zero, suc, _*_, _-_, _≤_}
 use native.Mathlib.Omega.{arith}
 use lib.Dec.{T, eqb, leb}
 use lib.ListN.{length, take, drop, length-map}
 use lib.Seq.{length-take-le}
 use borrow.Author.Tests.{leb-true, le-leb}
 use Rattle.words.specs.Blocks.{blocks, recordsOf, laid}
-use Rattle.words.proofs.Records.{records-laid}
+use Rattle.words.proofs.Records.{records-laid, holds-length}
 use Rattle.words.specs.Order.{ascends, rank}
 use Rattle.words.proofs.Ordered.{and-left, and-right, rank-le}
 use Rattle.rtp.specs.declared.opt.Opt.the-variants.{None, Some}
@@ -27,13 +27,12 @@ use Rattle.model.specs.declared.LastReturned.{LastReturned}
 use Rattle.model.specs.declared.Queue.{Queue}
 use Rattle.model.specs.Lists.{keep, leading, trailing, every?}
 use Rattle.model.specs.Records.{Gap, gapNumbers, returnedOf, highestOf}
-use Rattle.model.specs.Rules.{gapsBelow, gapsFrom, fresh, dueAt, due, nackDue, rttAfterRepair}
+use Rattle.model.specs.Rules.{gapsBelow, gapsFrom, dueAt, due, nackDue, rttAfterRepair}
 use Rattle.model.specs.Push.{passed, atOrBelow}
 use Rattle.model.specs.Poll.{nackTimeout}
 use Rattle.model.specs.Valid.{under, notPassed, gapSound}
 use Rattle.model.specs.Storage.{GAP-WORDS, gapWords, gapOfWords, gapsOf}
-use Rattle.model.proofs.Laid.{even-words, gap-wide, gap-coded}
-use Rattle.model.proofs.Kept.{kept-length}
+use Rattle.model.proofs.Laid.{gaps-held, gap-coded}
 use Rattle.packet_gaps.specs.Gaps.{GapsIn, Small, onceOf, nackedOnce, sampledAt, dueAfter, dueBy, nackedBy, timeoutBy, instantsFit}
 use Rattle.packet_gaps.specs.Sound.{passedOf, boundsOf, gapWithin}
 use Rattle.packet_gaps.proofs.Laws.{below-front}
@@ -143,10 +142,10 @@ gapsOf-take s (suc n) (suc k) h = ap (λ (l : List Gap). gapOfWords (take GAP-WO
 module _ (cap n : ℕ) (gs : List Gap) (s : List ℕ) (e : s ≡ laid gapWords cap gs) (l : length gs ≡ n) (h : GAP-WORDS * n ≤ cap) where
   pub laid-is : gapsOf s n ≡ gs
   unfolding gapsOf recordsOf
-  laid-is = ap (λ (x : List ℕ). gapsOf x n) e ∙ records-laid GAP-WORDS gapOfWords gapWords gap-coded cap n gs l
+  laid-is = ap (λ (x : List ℕ). gapsOf x n) e ∙ records-laid gap-coded cap n gs l
 
   pub laid-length : length s ≡ cap
-  laid-length = kept-length GAP-WORDS cap n gapWords gs s e (even-words GAP-WORDS gapWords gap-wide gs) l h
+  laid-length = holds-length (gaps-held e l h)
 
   pub laid-in : GapsIn s n
   laid-in = record { room = omega (arith, laid-length); held = rw (laid-length, laid-is) e }

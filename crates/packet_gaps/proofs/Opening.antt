@@ -7,12 +7,12 @@ use lib.ListN.{length, length-append, length-map}
 use Rattle.words.specs.Words.{written}
 use Rattle.words.specs.Blocks.{laid}
 use Rattle.words.proofs.Lists.{map-append}
+use Rattle.words.proofs.Records.{holds-length, holds-pushed}
 use Rattle.model.specs.Lists.{following}
 use Rattle.model.specs.Records.{Gap}
 use Rattle.model.specs.Rules.{between, fresh}
 use Rattle.model.specs.Storage.{GAP-WORDS, gapWords, gapsOf}
-use Rattle.model.proofs.Laid.{even-words, gap-wide, length-gapsOf}
-use Rattle.model.proofs.Kept.{kept-length, kept-pushed}
+use Rattle.model.proofs.Laid.{gaps-held, length-gapsOf}
 use Rattle.packet_gaps.specs.Gaps.{GapsIn}
 
 following-next : (a k : ℕ) → following a (suc k) ≡ following a k ++ ((a + k) ∷ [])
@@ -76,7 +76,7 @@ opening-more s₀ s t n h x at number i o l e =
     let ly : length (opened s₀ n h at (i + 1 - n)) ≡ i + 1 = length-opened s₀ n h at (i + 1 - n) ∙ omega arith in
     let held : t ≡ laid gapWords (length s₀) (opened s₀ n h at (i + 1 - n)) =
     e
-    ∙ kept-pushed GAP-WORDS (length s₀) i gapWords xs s (o .held) (even-words GAP-WORDS gapWords gap-wide xs) lx (omega arith) (fresh at number)
+    ∙ holds-pushed (gaps-held (o .held) lx (omega arith)) (fresh at number)
     ∙ ap (λ (m : ℕ). laid gapWords (length s₀) (xs ++ (fresh at m ∷ []))) (sym v)
     ∙ ap (laid gapWords (length s₀)) (opened-next s₀ n h at k ∙ ap (opened s₀ n h at) z) in
     record {
@@ -84,7 +84,7 @@ opening-more s₀ s t n h x at number i o l e =
       upto = omega arith;
       step = omega arith;
       room = room;
-      same = kept-length GAP-WORDS (length s₀) (i + 1) gapWords (opened s₀ n h at (i + 1 - n)) t held (even-words GAP-WORDS gapWords gap-wide (opened s₀ n h at (i + 1 - n))) ly (omega arith);
+      same = holds-length (gaps-held held ly (omega arith));
       held = held;
     }
 

@@ -107,10 +107,6 @@ module _ {A : Type 0} (number : A → ℕ) (test : A → Bool) (d : A) (xs : Lis
       unfolding left every?
       left-more e l = rw (more, lt-ltb x y l, drop-next d xs i h, e)
 
-  pub left-all : left 0 ≡ (ascends (map number xs) && every? test xs)
-  unfolding left
-  left-all = refl
-
   pub left-end : (i : ℕ) → length xs ≤ i → left i ≡ true
   unfolding left every?
   left-end i h =

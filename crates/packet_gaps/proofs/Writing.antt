@@ -7,19 +7,17 @@ use Prim.Native.Nat.{ℕ, zero, suc, _+_, _*_, _≤_, _<_}
 use native.Mathlib.Omega.{arith}
 use lib.ListN.{length, take, drop, getD, set, length-append, length-map, length-take, length-drop, take-append-drop, drop-of-length-le}
 use lib.Seq.{take-all, length-take-le, set-at, getD-at}
-use Rattle.words.specs.Words.{over, written, padded}
-use Rattle.words.specs.Blocks.{flat, laid}
-use Rattle.words.proofs.Over.{length-over, take-over}
+use Rattle.words.specs.Words.{over, written}
+use Rattle.words.specs.Blocks.{laid}
 use Rattle.words.proofs.Loops.{Writing, writing-none, writing-more, writing-all}
 use Rattle.words.proofs.Lists.{map-append}
-use Rattle.words.proofs.Records.{pass-none, pass-read, pass-write}
+use Rattle.words.proofs.Records.{Holds, holds-length, holds-at, holds-set}
 use Rattle.config.specs.declared.NackTimings.{NackTimings}
 use Rattle.model.specs.Lists.{keep, some?}
 use Rattle.model.specs.Records.{Gap}
 use Rattle.model.specs.Rules.{nacked}
 use Rattle.model.specs.Storage.{GAP-WORDS, gapWords, gapOfWords, gapsOf}
-use Rattle.model.proofs.Laid.{even-words, length-words, gap-wide, gap-back, length-gapsOf}
-use Rattle.model.proofs.Kept.{kept-length, kept-at, kept-set}
+use Rattle.model.proofs.Laid.{gap-wide, gaps-held, gap-coded, length-gapsOf}
 use Rattle.packet_gaps.specs.Gaps.{GapsIn, dueBy, nackedBy, truncated}
 use Rattle.packet_gaps.proofs.Laws.{noGap, gap-at}
 use Rattle.packet_gaps.proofs.Turns.{or-left, or-right, drop-next, take-next}
@@ -134,15 +132,18 @@ module _ (t : NackTimings) (now : ℕ) (s₀ out₀ s out : List ℕ) (n i count
   unfolding xs before
   length-before = length-map (take i xs) (nackedBy t now) ∙ length-take-le i xs (omega (arith, inside))
 
+  here : Holds GAP-WORDS (length s₀) gapWords s n (polled t now xs i)
+  unfolding xs
+  here = gaps-held (c .held) (length-polled t now s₀ n i) (c .kept .room)
+
   pub polling-here : (g : Gap) → g ≡ gapOfWords (take GAP-WORDS (drop (GAP-WORDS * i) s)) → g ≡ getD (gapsOf s₀ n) i noGap
   unfolding xs x
   polling-here g e =
-      let w : take GAP-WORDS (drop (GAP-WORDS * i) s) ≡ gapWords (getD (polled t now xs i) i noGap) =
-      kept-at GAP-WORDS (length s₀) n gapWords (polled t now xs i) s (c .held) (even-words GAP-WORDS gapWords gap-wide (polled t now xs i)) (length-polled t now s₀ n i) (c .kept .room) i noGap h in
+      let w : take GAP-WORDS (drop (GAP-WORDS * i) s) ≡ gapWords (getD (polled t now xs i) i noGap) = holds-at here i noGap h in
       let v : getD (polled t now xs i) i noGap ≡ x = ap (λ (l : List Gap). getD l i noGap) around ∙ getD-at before x (drop (i + 1) xs) noGap i length-before in
       let w₀ : List ℕ = take GAP-WORDS (drop (GAP-WORDS * i) s₀) in
       let y : x ≡ gapOfWords w₀ = gap-at s₀ n i h in
-      e ∙ ap gapOfWords (w ∙ ap gapWords (v ∙ y)) ∙ gap-back (gapOfWords w₀) ∙ sym y
+      e ∙ ap gapOfWords (w ∙ ap gapWords (v ∙ y)) ∙ gap-coded .back (gapOfWords w₀) ∙ sym y
 
   due-one : dueBy t now x ≡ true → nackedBy t now x ≡ nacked now x
   unfolding nackedBy
@@ -164,10 +165,9 @@ module _ (t : NackTimings) (now : ℕ) (s₀ out₀ s out : List ℕ) (n i count
       let k = keep p (take i xs) in
       let q = keep p xs in
       let f : nackedBy t now x ≡ y = due-one d ∙ ap (nacked now) (sym eg) ∙ sym ey in
-      let ev-zs = even-words GAP-WORDS gapWords gap-wide (polled t now xs i) in
       let held : u ≡ laid gapWords (length s₀) (polled t now xs (i + 1)) =
       eu
-      ∙ kept-set GAP-WORDS (length s₀) n gapWords (polled t now xs i) s (c .held) ev-zs (length-polled t now s₀ n i) (c .kept .room) i y (gap-wide y) h
+      ∙ holds-set here i y (gap-wide y) h
       ∙ ap (laid gapWords (length s₀)) (ap (λ (l : List Gap). set l i y) around ∙ set-at before x (drop (i + 1) xs) y i length-before ∙ next y f) in
       let kn : keep p (take (i + 1) xs) ≡ k ++ (x ∷ []) = keep-next p noGap xs i inside d in
       let ln : length (keep p (take (i + 1) xs)) ≡ length k + 1 = ap length kn ∙ length-append k (x ∷ []) in
@@ -183,7 +183,7 @@ module _ (t : NackTimings) (now : ℕ) (s₀ out₀ s out : List ℕ) (n i count
         upto = omega arith;
         fewer = omega (arith, c .fewer);
         room = c .room;
-        same = kept-length GAP-WORDS (length s₀) n gapWords (polled t now xs (i + 1)) u held (even-words GAP-WORDS gapWords gap-wide (polled t now xs (i + 1))) (length-polled t now s₀ n (i + 1)) (c .kept .room);
+        same = holds-length (gaps-held held (length-polled t now s₀ n (i + 1)) (c .kept .room));
         counted = omega (arith, ln, c .counted);
         numbers = rw eo w;
         held = held;

@@ -2,16 +2,15 @@
 use mathlib.Core.Path.{_≡_, refl}
 use mathlib.Core.Bool.{Bool, true, false, cond, _&&_, _||_}
 use mathlib.Core.List.{List, []}
-use Prim.Native.Nat.{ℕ, _+_, _-_, _≤_, _<_, _^_}
+use Prim.Native.Nat.{ℕ, _-_, _≤_}
 use native.Mathlib.Omega.{arith}
 use lib.Dec.{eqb, leb, ltb}
-use lib.ListN.{length, drop, length-take, length-drop, List·getD-eq-default}
-use lib.Seq.{take-all, getD-take, getD-drop}
-use borrow.Author.Tests.{ltb-true, ltb-false}
-use Rattle.rtp_packet.specs.Header.{byte, AllBytes, sequenceNumber, timestamp, padding, headerLength, paddingLength, payloadEnd, between, payloadOf}
+use lib.ListN.{length, drop, length-take, length-drop}
+use lib.Seq.{take-all}
+use borrow.Author.Tests.{ltb-false}
+use Rattle.rtp_packet.specs.Header.{padding, headerLength, paddingLength, payloadEnd, between, payloadOf}
 use Rattle.rtp_packet.specs.Datagram.{wrongPadding, datagramRefusal, packetOf}
-use Rattle.rtp_packet.specs.Original.{originalNumber, originalPayload}
-use Rattle.rtp_packet.proofs.BigEndian.{bigEndian-lt}
+use Rattle.rtp_packet.specs.Original.{originalPayload}
 use Rattle.rtp_packet.proofs.Refused.{accepted}
 
 -- ---- a part of a list
@@ -23,18 +22,6 @@ between-none start end d h =
 
 pub between-rest : (start end : ℕ) (d : List ℕ) → length d ≤ end → between start end d ≡ drop start d
 between-rest start end d h = take-all (end - start) (drop start d) (omega (arith, length-drop start d))
-
--- of bytes, it is one of bytes
-pub between-bytes : (start end : ℕ) (d : List ℕ) → AllBytes d → AllBytes (between start end d)
-between-bytes start end d all i = by-test (ltb i (end - start)) refl
-  where
-    by-test : (t : Bool) → ltb i (end - start) ≡ t → byte (between start end d) i < 256
-    by-test true e =
-        let h : i < end - start = ltb-true _ _ e in
-        rw (getD-take, getD-drop) (all (start + i))
-    by-test false e =
-        let h : length (between start end d) ≤ i = omega (arith, length-take (end - start) (drop start d), ltb-false i (end - start) e) in
-        rw (List·getD-eq-default (between start end d) 0 {n = i} h) (omega arith)
 
 -- ---- the payload
 
@@ -67,19 +54,3 @@ payload-fits t s largest d e = accepted t s largest d e .payload-fits
 pub length-original : (p : List ℕ) → length (originalPayload p) ≡ length p - 2
 unfolding originalPayload
 length-original p = length-drop 2 p
-
--- ---- how large the numbers are
-
-pub sequenceNumber-lt : (d : List ℕ) → AllBytes d → sequenceNumber d < 2 ^ 16
-sequenceNumber-lt d all = bigEndian-lt 2 2 d all
-
-pub timestamp-lt : (d : List ℕ) → AllBytes d → timestamp d < 2 ^ 32
-timestamp-lt d all = bigEndian-lt 4 4 d all
-
-pub originalNumber-lt : (p : List ℕ) → AllBytes p → originalNumber p < 2 ^ 16
-unfolding originalNumber
-originalNumber-lt p all = bigEndian-lt 2 0 p all
-
-pub payload-bytes : (d : List ℕ) → AllBytes d → AllBytes (payloadOf d)
-unfolding payloadOf
-payload-bytes d all = between-bytes (headerLength d) (payloadEnd d) d all

@@ -7,14 +7,14 @@ use Prim.Native.Nat.{ℕ, zero, suc, _+_, _*_, _≤_, _<_}
 use native.Mathlib.Nat.{mul-suc, mul-zero, mul-add, mul-le-mul-left}
 use native.Mathlib.Omega.{arith}
 use lib.ListN.{length, take, drop, getD, set, replicate, length-append, length-drop, length-map, List·getD-map}
-use lib.Seq.{take-append-add, drop-append-add, take-add, length-take-le, drop-drop, getD-take, getD-drop, take-take, take-nil, drop-nil, take-append-seam, drop-append-seam, set-split}
+use lib.Seq.{take-append-add, drop-append-add, take-add, length-take-le, drop-drop, getD-take, getD-drop, take-nil, drop-nil, take-append-seam, drop-append-seam, set-split}
 use Rattle.words.specs.Words.{over, written, padded, Tidy, cut, inserted}
 use Rattle.words.specs.Blocks.{blocks, firsts, flat, Even}
 use Rattle.words.specs.Order.{ascends, rank}
-use Rattle.words.proofs.Ordered.{rank-le, rank-above, rank-below}
+use Rattle.words.proofs.Ordered.{rank-above, rank-below}
 use Rattle.words.proofs.Over.{over-is}
 use Rattle.words.proofs.Moves.{written-is}
-use Rattle.words.proofs.Padded.{tidy-padded, tidy-written, tidy-removed, tidy-inserted, tidy-replaced}
+use Rattle.words.proofs.Padded.{tidy-written, tidy-removed, tidy-inserted, tidy-replaced}
 
 -- ---- how long they are
 
@@ -58,16 +58,6 @@ even-drop w (suc k) (b ∷ bs) e = even-drop w k bs (e .1)
 pub even-inserted : (w i : ℕ) (q : List ℕ) (bs : List (List ℕ)) → length q ≡ w → Even w bs → Even w (inserted i (q ∷ []) bs)
 unfolding inserted Even
 even-inserted w i q bs l e = even-append w (take i bs) (q ∷ drop i bs) (even-take w i bs e) (l, even-drop w i bs e)
-
-pub even-cut : (w i k : ℕ) (bs : List (List ℕ)) → Even w bs → Even w (cut i k bs)
-unfolding cut
-even-cut w i k bs e = even-append w (take i bs) (drop (i + k) bs) (even-take w i bs e) (even-drop w (i + k) bs e)
-
-pub even-set : (w i : ℕ) (q : List ℕ) (bs : List (List ℕ)) → length q ≡ w → Even w bs → Even w (set bs i q)
-unfolding Even
-even-set w i q [] l e = tt
-even-set w zero q (b ∷ bs) l e = (l, e .1)
-even-set w (suc i) q (b ∷ bs) l e = (e .0, even-set w i q bs l (e .1))
 
 -- ---- words and records
 
@@ -128,20 +118,12 @@ blocks-padded w cap n bs e l = rw (over-is, ← l) (go bs e _)
         let y : drop w ((b ++ flat bs) ++ t) ≡ flat bs ++ t = rw (append-assoc, ← (e .0)) (drop-append-seam b (flat bs ++ t)) in
         rw (x, y) (ap (λ (l : List (List ℕ)). b ∷ l) (go bs (e .1) t))
 
--- of a slice that has been tidied: what was there before
-pub blocks-tidied : (w cap n : ℕ) (s : List ℕ) → w * n ≤ length s → blocks w (padded cap (take (w * n) s)) n ≡ blocks w s n
-blocks-tidied w cap n s h = rw (← flat-blocks w n s) (blocks-padded w cap n (blocks w s n) (even-blocks w n s h) (length-blocks w n s))
-
 -- the record at a place
 pub block-at : (w n : ℕ) (s : List ℕ) (k : ℕ) → k < n → getD (blocks w s n) k [] ≡ take w (drop (w * k) s)
 unfolding blocks
 block-at w zero s k h = absurd (omega arith)
 block-at w (suc n) s zero h = rw mul-zero
 block-at w (suc n) s (suc k) h = block-at w n (drop w s) k (omega arith) ∙ ap (take w) (drop-drop (w * k) w s ∙ ap (λ (i : ℕ). drop i s) (sym (step w k)))
-
--- the first m words of it
-pub part-at : (w n : ℕ) (s : List ℕ) (k m : ℕ) → k < n → m ≤ w → take m (getD (blocks w s n) k []) ≡ take m (drop (w * k) s)
-part-at w n s k m h l = ap (take m) (block-at w n s k h) ∙ take-take m w (drop (w * k) s) l
 
 -- a word of it
 pub word-at : (w k j : ℕ) (s : List ℕ) → j < w → getD (take w (drop (w * k) s)) j 0 ≡ getD s (w * k + j) 0
@@ -158,9 +140,6 @@ first-at w n s k p h =
     let z : w * k + 0 ≡ w * k = omega arith in
     List·getD-map first (blocks w s n) k [] ∙ ap first (block-at w n s k h) ∙ word-at w k 0 s p ∙ ap (λ (i : ℕ). getD s i 0) z
 
-pub rank-within : (w n x r : ℕ) (s : List ℕ) → r ≡ rank x (firsts w s n) → r ≤ n
-rank-within w n x r s e = omega (arith, rank-le x (firsts w s n), length-firsts w n s)
-
 -- what the first word of a record says of the rank
 module _ (w n x k : ℕ) (s : List ℕ) (p : 0 < w) (h : k < n) where
   pub rank-past : ascends (firsts w s n) ≡ true → getD s (w * k) 0 < x → k < rank x (firsts w s n)
@@ -170,9 +149,6 @@ module _ (w n x k : ℕ) (s : List ℕ) (p : 0 < w) (h : k < n) where
   rank-upto l = rank-below x (firsts w s n) k (rw length-firsts h) (rw (first-at w n s k p h) l)
 
 -- ---- what the moves do to the records of a tidy slice
-
-pub tidy-flat : (w cap n : ℕ) (bs : List (List ℕ)) (s : List ℕ) → s ≡ padded cap (flat bs) → Even w bs → length bs ≡ n → w * n ≤ cap → Tidy s (w * n)
-tidy-flat w cap n bs s p e l h = tidy-padded cap (w * n) (flat bs) s p (length-flat w bs e ∙ ap (λ (k : ℕ). w * k) l) h
 
 module _ (w n : ℕ) (s : List ℕ) (t : Tidy s (w * n)) where
   even : Even w (blocks w s n)

@@ -1,15 +1,14 @@
 -- Laws of `rank`, `member` and `ascends`: what a binary search and a scan have to know, and that a list stays in order as it changes.
-use mathlib.Core.Path.{_≡_, refl, sym}
+use mathlib.Core.Path.{_≡_, refl}
 use mathlib.Core.Bool.{Bool, true, false, cond, _&&_, _||_, false≢true}
-use mathlib.Core.List.{List, [], _∷_, _++_}
+use mathlib.Core.List.{List, [], _∷_}
 use Prim.Native.Nat.{ℕ, zero, suc, _+_, _≤_, _<_, zero-le, suc-le-suc}
 use native.Mathlib.Omega.{arith}
-use lib.ListN.{length, getD, take, drop}
+use lib.ListN.{length, getD, drop}
 use lib.Dec.{ltb, eqb}
 use native.Mathlib.Numerals.{add-one}
 use lib.Seq.{drop-cons, drop-nil}
-use borrow.Author.Tests.{ltb-true, ltb-false, lt-ltb, le-ltb, ne-eqb, eqb-false}
-use Rattle.words.specs.Words.{cut, inserted}
+use borrow.Author.Tests.{ltb-true, ltb-false, lt-ltb, le-ltb, ne-eqb}
 use Rattle.words.specs.Order.{leads, ascends, member, rank}
 
 -- a conjunction's parts
@@ -117,91 +116,7 @@ ascends-end (suc i) (x ∷ xs) h = ascends-end i xs (omega arith)
 
 -- ---- lists that change
 
--- the first below x, and those from its rank on
-pub rank-front : (x : ℕ) (xs : List ℕ) (k : ℕ) → k < rank x xs → getD xs k 0 < x
-unfolding rank
-rank-front x [] k h = absurd (omega arith)
-rank-front x (y ∷ ys) k h = go (rank-front x ys) k (ltb y x) refl h
-  where
-    go : ((k : ℕ) → k < rank x ys → getD ys k 0 < x) → (k : ℕ) (b : Bool) → ltb y x ≡ b → k < cond b (suc (rank x ys)) zero → getD (y ∷ ys) k 0 < x
-    go ih zero true e l = ltb-true y x e
-    go ih (suc k) true e l = ih k (omega arith)
-    go ih k false e l = absurd (omega arith)
-
-pub rank-rest : (x : ℕ) (xs : List ℕ) (k : ℕ) → ascends xs ≡ true → rank x xs ≤ k → k < length xs → x ≤ getD xs k 0
-rank-rest x xs k a h l = go (ltb (getD xs k 0) x) refl
-  where
-    go : (b : Bool) → ltb (getD xs k 0) x ≡ b → x ≤ getD xs k 0
-    go true e = let z : k < rank x xs = rank-above x xs k a l (ltb-true (getD xs k 0) x e) in absurd (omega arith)
-    go false e = ltb-false (getD xs k 0) x e
-
--- x is above the last: all are below it
-pub rank-all : (x n : ℕ) (xs : List ℕ) → ascends xs ≡ true → length xs ≡ suc n → getD xs n 0 < x → rank x xs ≡ length xs
-rank-all x n xs a l h =
-    let up : n < rank x xs = rank-above x xs n a (omega arith) h in
-    let le : rank x xs ≤ length xs = rank-le x xs in
-    omega arith
-
--- parts of tests
-or-left : (a b : Bool) → (a || b) ≡ false → a ≡ false
-or-left false b e = refl
-or-left true b e = e
-
-or-right : (a b : Bool) → (a || b) ≡ false → b ≡ false
-or-right false b e = e
-or-right true b e = absurd (false≢true (sym e))
-
-both : (a b : Bool) → a ≡ true → b ≡ true → (a && b) ≡ true
-both a b p q = rw (p, q)
-
--- with the second left out
-ascends-skip : (x y : ℕ) (ys : List ℕ) → ascends (x ∷ y ∷ ys) ≡ true → ascends (x ∷ ys) ≡ true
-unfolding ascends leads
-ascends-skip x y [] a = refl
-ascends-skip x y (z ∷ zs) a =
-    let far : x < z = ascends-lt x (y ∷ z ∷ zs) 1 a (omega arith) in
-    both (ltb x z) (ascends (z ∷ zs)) (lt-ltb x z far) (ascends-tail y (z ∷ zs) (ascends-tail x (y ∷ z ∷ zs) a))
-
-leads-drop : (x k : ℕ) (xs : List ℕ) → ascends (x ∷ xs) ≡ true → ascends (x ∷ drop k xs) ≡ true
-leads-drop x zero xs a = a
-leads-drop x (suc k) [] a = a
-leads-drop x (suc k) (y ∷ ys) a = leads-drop x k ys (ascends-skip x y ys a)
-
 pub ascends-drop : (k : ℕ) (xs : List ℕ) → ascends xs ≡ true → ascends (drop k xs) ≡ true
 ascends-drop zero xs a = a
 ascends-drop (suc k) [] a = a
 ascends-drop (suc k) (x ∷ xs) a = ascends-drop k xs (ascends-tail x xs a)
-
-cut-after : (x i k : ℕ) (xs : List ℕ) → ascends (x ∷ xs) ≡ true → ascends (x ∷ take i xs ++ drop (i + k) xs) ≡ true
-unfolding ascends leads
-cut-after x zero k xs a = leads-drop x (0 + k) xs a
-cut-after x (suc i) k [] a = let e : suc i + k ≡ suc (i + k) = omega arith in rw e a
-cut-after x (suc i) k (y ∷ ys) a =
-    let e : suc i + k ≡ suc (i + k) = omega arith in
-    rw e (both (ltb x y) (ascends (y ∷ take i ys ++ drop (i + k) ys)) (and-left (ltb x y) (ascends (y ∷ ys)) a) (cut-after y i k ys (ascends-tail x (y ∷ ys) a)))
-
-pub ascends-cut : (i k : ℕ) (xs : List ℕ) → ascends xs ≡ true → ascends (cut i k xs) ≡ true
-unfolding cut
-ascends-cut zero k xs a = ascends-drop (0 + k) xs a
-ascends-cut (suc i) k [] a = let e : suc i + k ≡ suc (i + k) = omega arith in rw e a
-ascends-cut (suc i) k (x ∷ xs) a = let e : suc i + k ≡ suc (i + k) = omega arith in rw e (cut-after x i k xs a)
-
--- x put in at its rank, where it is not yet there
-pub ascends-inserted : (x : ℕ) (xs : List ℕ) → ascends xs ≡ true → member x xs ≡ false → ascends (inserted (rank x xs) (x ∷ []) xs) ≡ true
-unfolding inserted rank member ascends leads
-ascends-inserted x [] a m = refl
-ascends-inserted x (y ∷ ys) a m = go (ascends-inserted x ys (ascends-tail y ys a) (or-right (eqb y x) (member x ys) m)) (ltb y x) refl
-  where
-    ahead : (r : ℕ) (zs : List ℕ) → y < x → leads y zs ≡ true → leads y (take r zs ++ (x ∷ drop r zs)) ≡ true
-    ahead zero zs h l = lt-ltb y x h
-    ahead (suc r) [] h l = lt-ltb y x h
-    ahead (suc r) (z ∷ zs) h l = l
-
-    go : ascends (take (rank x ys) ys ++ (x ∷ drop (rank x ys) ys)) ≡ true → (b : Bool) → ltb y x ≡ b
-        → ascends (take (cond b (suc (rank x ys)) zero) (y ∷ ys) ++ (x ∷ drop (cond b (suc (rank x ys)) zero) (y ∷ ys))) ≡ true
-    go ih true e = both (leads y (take (rank x ys) ys ++ (x ∷ drop (rank x ys) ys))) (ascends (take (rank x ys) ys ++ (x ∷ drop (rank x ys) ys))) (ahead (rank x ys) ys (ltb-true y x e) (and-left (leads y ys) (ascends ys) a)) ih
-    go ih false e =
-        let le : x ≤ y = ltb-false y x e in
-        let ne : y ≡ x → ⊥ = eqb-false y x (or-left (eqb y x) (member x ys) m) in
-        let lt : x < y = omega arith in
-        both (ltb x y) (ascends (y ∷ ys)) (lt-ltb x y lt) a

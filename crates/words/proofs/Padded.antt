@@ -20,13 +20,6 @@ tidy-padded cap n p s e l h =
     let z : length s ≡ cap = ap length e ∙ length-padded cap p (omega arith) in
     record { room = omega arith; rest = rw (z, e, take-padded cap n p l) }
 
--- what `tidy` leaves is tidy, and as long as it was
-pub tidy-tidied : (n : ℕ) (s t : List ℕ) → n ≤ length s → t ≡ padded (length s) (take n s) → Tidy t n
-tidy-tidied n s t h e = tidy-padded (length s) n (take n s) t e (length-take-le n s h) h
-
-pub length-tidied : (n : ℕ) (s t : List ℕ) → n ≤ length s → t ≡ padded (length s) (take n s) → length t ≡ length s
-length-tidied n s t h e = ap length e ∙ length-padded (length s) (take n s) (simp length-take (omega arith))
-
 over-assoc : (a p z : List ℕ) → length a ≤ length p → over a (over p z) ≡ over (over a p) z
 unfolding over
 over-assoc [] p z h = refl

@@ -1,5 +1,5 @@
 -- Records of w words each, one after the other in a slice, at any w; and lists of records so kept.
-use Prim.Native.Nat.{ℕ, zero, suc, _*_, _≤_}
+use Prim.Native.Nat.{ℕ, zero, suc}
 use mathlib.Core.Path.{_≡_}
 use mathlib.Core.List.{List, [], _∷_, _++_, map}
 use lib.ListN.{length, take, drop, getD}
@@ -32,10 +32,3 @@ module _ {A : Type 0} where
   -- a slice of cap words that holds the records xs, each put into words by `enc`, and zeros after them
   unfoldable pub laid : (A → List ℕ) → ℕ → List A → List ℕ
   laid enc cap xs = padded cap (flat (map enc xs))
-
-  -- s holds the n records xs of w words each, and zeros after them
-  pub record Holds (w : ℕ) (enc : A → List ℕ) (s : List ℕ) (n : ℕ) (xs : List A) : Type 0 where
-    pub is : s ≡ laid enc (length s) xs
-    pub even : Even w (map enc xs)
-    pub count : length xs ≡ n
-    pub room : w * n ≤ length s

@@ -2,7 +2,7 @@
 use mathlib.Core.Path.{_∙_}
 use Rattle.words.specs.Blocks.{recordsOf}
 use Rattle.words.proofs.Records.{tidied-laid}
-use Rattle.model.specs.Storage.{GAP-WORDS, gapWords, gapOfWords, gapsOf}
+use Rattle.model.specs.Storage.{gapsOf}
 use Rattle.model.proofs.Laid.{gap-coded}
 use borrow.Author.Needs.{needs}
 use Rattle.packet_gaps.proofs.check.tidy.Statement.{statement}
@@ -21,7 +21,7 @@ returns : tie.Need-returns
 unfolding gapsOf recordsOf
 returns c =
     let s = c .before .before .before .before .before in
-    c .before .before .tidy .ensures ∙ tidied-laid GAP-WORDS gapOfWords gapWords gap-coded (s .args .n) (s .args .s .now) (s .pre)
+    c .before .before .tidy .ensures ∙ tidied-laid gap-coded (s .args .n) (s .args .s .now) (s .pre)
 
 pub tidy-spec : {M : Type 1} → statement M
 tidy-spec = tie.close (tie.spec mul-tidy tidy-requires same-length returns)
