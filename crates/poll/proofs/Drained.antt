@@ -18,7 +18,7 @@ use Rattle.model.proofs.Laid.{length-entriesOf, length-gapsOf, length-remembere
 use Rattle.model.proofs.SoundCalls.{payloads-fit}
 use Rattle.packet_gaps.specs.Gaps.{GapsIn}
 use Rattle.packet_gaps.proofs.Model.{laid-is, laid-length, laid-in}
-use Rattle.storage.specs.Stored.{storage, stored}
+use Rattle.model.specs.Contract.{storage, stored}
 use Rattle.storage.specs.Settled.{Settled}
 use Rattle.poll.specs.Steps.{Handing, Leaves, drainedSession}
 use Rattle.storage.proofs.Checking.{Lengths}

@@ -16,7 +16,7 @@ use Rattle.model.specs.Calls.{Call, outputOf}
 use Rattle.model.specs.Table.{refuseIf, sessionSound, sessionRefusal, outputRefusal, clockRefusal, callRefusal, refusal}
 use Rattle.model.specs.Did.{did, accepted}
 use Rattle.model.proofs.SoundQueue.{clock-of}
-use Rattle.storage.specs.Stored.{Does}
+use Rattle.model.specs.Contract.{Does}
 use Rattle.storage.proofs.Settled.{assoc, refused-is, accepted-is, passed-16}
 
 -- 16, 15, 8

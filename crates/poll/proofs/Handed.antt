@@ -19,7 +19,7 @@ use Rattle.model.proofs.Laid.{length-entriesOf, length-gapsOf}
 use Rattle.entries.specs.declared.Entry as Row
 use Rattle.entries.specs.Entries.{entry}
 use Rattle.packet_gaps.proofs.Model.{gapsOf-take}
-use Rattle.storage.specs.Stored.{storage, stored}
+use Rattle.model.specs.Contract.{storage, stored}
 use Rattle.poll.specs.Steps.{Leaves}
 use Rattle.poll.proofs.Parted.{lost-le, lost-front, left-front}
 

@@ -30,7 +30,7 @@ use Rattle.model.specs.Did.{accepted}
 use Rattle.model.proofs.Laid.{length-entriesOf, length-rememberedOf}
 use Rattle.packet_gaps.specs.Gaps.{GapsIn, instantsFit, Small, dueBy, nackedBy, truncated, full}
 use Rattle.packet_gaps.proofs.Model.{due-keep, due-nacked}
-use Rattle.storage.specs.Stored.{stored, Does}
+use Rattle.model.specs.Contract.{stored, Does}
 use Rattle.storage.specs.Settled.{Settled}
 use Rattle.poll.specs.Steps.{Leaves, Nacking, dueLeft, nacksRefusal, drainedSession}
 use Rattle.storage.proofs.Settled.{checked, ready, holding, settled-of, settings-in, instants}

@@ -24,7 +24,7 @@ use Rattle.model.specs.Table.{sessionSound, outputRefusal, clockRefusal, countR
 use Rattle.model.specs.Did.{Done, did, accepted}
 use Rattle.model.proofs.Laid.{length-entriesOf, parse-gaps}
 use Rattle.packet_gaps.specs.Gaps.{GapsIn}
-use Rattle.storage.specs.Stored.{stored, Does}
+use Rattle.model.specs.Contract.{stored, Does}
 use Rattle.storage.specs.Settled.{Settled}
 use Rattle.storage.proofs.Settled.{checked, holding, settled-of, settings-in, last-in}
 use Rattle.poll.specs.declared.Due.{Due}

@@ -25,7 +25,7 @@ ghost use Rattle.model.specs.Did.{accepted};
 ghost use Rattle.model.specs.Calls.{delayIn, handed, payloadOut};
 ghost use Rattle.entries.specs.Entries.{entry};
 ghost use Rattle.poll.specs.Answers as Answers;
-ghost use Rattle.storage.specs.Stored.{storage, stored, Does};
+ghost use Rattle.model.specs.Contract.{storage, stored, Does};
 ghost use Rattle.storage.specs.Settled.{Settled};
 ghost use Rattle.poll.specs.Steps.{Handing, Leaves, handsOut, drainedSession, lostUnder, dueFor};
 use config::RtpInboundQueueMode;

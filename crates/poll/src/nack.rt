@@ -14,7 +14,7 @@ ghost use Rattle.model.specs.Calls as Calls;
 ghost use Rattle.model.specs.Storage.{GAP-WORDS, gapWords, gapsOf};
 ghost use Rattle.packet_gaps.specs.Gaps.{truncated, instantsFit, Small};
 ghost use Rattle.poll.specs.Answers as Answers;
-ghost use Rattle.storage.specs.Stored.{stored, Does};
+ghost use Rattle.model.specs.Contract.{stored, Does};
 ghost use Rattle.poll.specs.Steps.{Nacking, dueLeft, drainedSession, nacksRefusal};
 use config::NackTimings;
 use model::Session;

@@ -34,7 +34,7 @@ use Rattle.entries.specs.declared.Entry as Row
 use Rattle.entries.specs.Entries.{entry, firstNumber}
 use Rattle.session.specs.declared.push.Place as Code
 use Rattle.session.specs.Place.{place}
-use Rattle.storage.specs.Stored.{stored}
+use Rattle.model.specs.Contract.{stored}
 use Rattle.push.specs.Media.{Counts, Takes, Fit, packetRefusal, placed}
 use Rattle.storage.proofs.Settled.{Ready, holding}
 use Rattle.push.proofs.Placing.{length-opened}

@@ -39,7 +39,7 @@ use Rattle.entries.specs.Entries.{entry, Incoming}
 use Rattle.session.specs.declared.rtx.Fate as Code
 use Rattle.session.specs.declared.rtx.Fate.the-variants as Variant
 use Rattle.session.specs.Place.{fate, sampledAt, raisedBy}
-use Rattle.storage.specs.Stored.{stored}
+use Rattle.model.specs.Contract.{stored}
 use Rattle.storage.specs.Settled.{Settled}
 use Rattle.push.specs.Media.{Counts}
 use Rattle.push.specs.Repair.{entriesRefusal, fateRefusal, leftAfter, didFate, didRepair, FitRepair}

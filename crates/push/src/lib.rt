@@ -18,7 +18,7 @@ ghost use Rattle.packet_gaps.specs.Gaps.{GapsIn};
 ghost use Rattle.entries.specs.Entries.{entry};
 ghost use Rattle.session.specs.Place as Spec;
 ghost use Rattle.push.specs.Answers.{mediaAnswer};
-ghost use Rattle.storage.specs.Stored.{stored, Does};
+ghost use Rattle.model.specs.Contract.{stored, Does};
 ghost use Rattle.push.specs.Media.{Takes, Counts, Fit, entryOf, packetRefusal, placed, placedAnswer, didPacket};
 use entries::Entry;
 use model::LastReceived;

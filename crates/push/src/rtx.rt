@@ -17,7 +17,7 @@ ghost use Rattle.model.specs.Table.{sessionSound};
 ghost use Rattle.entries.specs.Entries.{entry};
 ghost use Rattle.session.specs.Place as Spec;
 ghost use Rattle.push.specs.Answers.{repairAnswer};
-ghost use Rattle.storage.specs.Stored.{stored, Does};
+ghost use Rattle.model.specs.Contract.{stored, Does};
 ghost use Rattle.storage.specs.Settled.{Settled};
 ghost use Rattle.push.specs.Media.{Counts};
 ghost use Rattle.push.specs.Repair.{FitRepair, originalEntry, entriesRefusal, fateRefusal, leftAfter, didRepair, didOriginal};

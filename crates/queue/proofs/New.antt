@@ -14,7 +14,7 @@ use Rattle.model.specs.declared.Config.{Config}
 use Rattle.model.specs.Records.{newState}
 use Rattle.model.specs.Storage.{lengthsFit, entriesLaid, payloadsLaid, gapsLaid, rememberedLaid, write}
 use Rattle.model.specs.Table.{configValid, refuseIf, openingRefusal}
-use Rattle.storage.specs.Stored.{storage}
+use Rattle.model.specs.Contract.{storage}
 use Rattle.storage.proofs.Checking.{Lengths, lengths-of}
 
 module _ (c : Config) (e p g r : List ℕ) (h : openingRefusal c (storage e p g r) ≡ 0) where

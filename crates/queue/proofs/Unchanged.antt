@@ -34,7 +34,7 @@ use Rattle.model.proofs.Lists.{Each, each-first, each-imp}
 use Rattle.model.proofs.SoundQueue.{clock-of, last-later}
 use Rattle.packet_gaps.specs.Gaps.{instantsFit, timeoutBy}
 use Rattle.packet_gaps.proofs.Model.{timeout-is}
-use Rattle.storage.specs.Stored.{stored, Does}
+use Rattle.model.specs.Contract.{stored, Does}
 use Rattle.storage.proofs.Settled.{checked, Ready, ready, settings-in, instants, accepted-is, passed-16}
 
 pub alone : (a : ℕ) → a ≡ orElse a 0

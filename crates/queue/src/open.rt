@@ -3,9 +3,8 @@ ghost use mathlib.Core.Path.{_≡_};
 ghost use Rattle.model.specs.Records.{newState};
 ghost use Rattle.model.specs.Storage.{write};
 ghost use Rattle.model.specs.Table.{openingRefusal};
-ghost use Rattle.model.specs.Did.{opened};
 ghost use Rattle.queue.specs.Answers.{openingAnswer};
-ghost use Rattle.storage.specs.Stored.{storage};
+ghost use Rattle.model.specs.Contract.{storage, Opens};
 use super::Opening;
 use jitter::Jitter;
 use model::Config;
@@ -71,7 +70,7 @@ pub fn open(
     gaps: &mut [u64],
     remembered: &mut [u64],
 ) -> Opening
-    ensures { λ r. ⌜ opened config (storage (now (entries .entry)) (now (payloads .entry)) (now (gaps .entry)) (now (remembered .entry))) ≡ record { answer = openingAnswer r; storage = storage (now (entries .exit)) (now (payloads .exit)) (now (gaps .exit)) (now (remembered .exit)) } ⌝ }
+    ensures { λ r. ⌜ Opens config (storage (now (entries .entry)) (now (payloads .entry)) (now (gaps .entry)) (now (remembered .entry))) (openingAnswer r) (storage (now (entries .exit)) (now (payloads .exit)) (now (gaps .exit)) (now (remembered .exit))) ⌝ }
 {
     let refused = refusal(config, entries, payloads, gaps, remembered);
     if refused != 0 {

@@ -14,7 +14,7 @@ ghost use Rattle.model.specs.Valid.{lastSound};
 ghost use Rattle.model.specs.Storage.{ENTRY-WORDS, entryOf, entriesOf};
 ghost use Rattle.model.specs.Calls as Calls;
 ghost use Rattle.queue.specs.Answers.{timeoutAnswer, statsAnswer, highestAnswer};
-ghost use Rattle.storage.specs.Stored.{stored, Does};
+ghost use Rattle.model.specs.Contract.{stored, Does};
 use super::HighestAnswer;
 use super::StatsAnswer;
 use super::TimeoutAnswer;

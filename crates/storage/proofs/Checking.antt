@@ -30,7 +30,7 @@ use Rattle.entries.specs.Sound.{entryWithin}
 use Rattle.entries.proofs.Model as Entries
 use Rattle.lost_nacked.specs.Remembered.{rememberedBy}
 use Rattle.lost_nacked.proofs.Model as Lost
-use Rattle.storage.specs.Stored.{stored}
+use Rattle.model.specs.Contract.{stored}
 use Rattle.storage.specs.Check.{numbersFit, listsSound}
 
 -- ---- the lists

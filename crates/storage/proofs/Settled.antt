@@ -38,7 +38,7 @@ use Rattle.packet_gaps.proofs.Model.{sound-instants}
 use Rattle.entries.specs.Entries.{EntriesIn, fits}
 use Rattle.entries.proofs.Model.{sound-fits}
 use Rattle.lost_nacked.specs.Remembered.{RememberedIn}
-use Rattle.storage.specs.Stored.{storage, stored, Does}
+use Rattle.model.specs.Contract.{storage, stored, Does}
 use Rattle.storage.specs.Check.{numbersFit, listsSound}
 use Rattle.storage.specs.Settled.{Settled}
 use Rattle.storage.proofs.Checking.{Lists, lists-of, Lengths, lengths-of, Counts, counts-of, Room, room-of, valid-usable, session-is}

@@ -1,4 +1,3 @@
--- What every call's contract cites: the lent slices as one storage, and check 16.
-pub mod Stored
+-- Check 16 as the code makes it, and what a call finds after it.
 pub mod Check
 pub mod Settled

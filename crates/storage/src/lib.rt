@@ -7,7 +7,7 @@ ghost use lib.ListN.{length};
 ghost use Rattle.refusals.specs.Refusals.{orElse};
 ghost use Rattle.model.specs.Storage.{ENTRY-WORDS, GAP-WORDS, REMEMBERED-WORDS, lengthsFit, parse, write};
 ghost use Rattle.model.specs.Table.{sessionSound, sessionRefusal, clockRefusal};
-ghost use Rattle.storage.specs.Stored.{storage, stored};
+ghost use Rattle.model.specs.Contract.{storage, stored};
 ghost use Rattle.storage.specs.Check.{numbersFit, listsSound};
 use config::Settings;
 use model::Session;

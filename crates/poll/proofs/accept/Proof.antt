@@ -1,7 +1,7 @@
 -- `accept` meets its contract: `drain`, then nothing goes out or the first entry does.
 use mathlib.Core.Path.{_∙_}
 use borrow.Author.Tests.{not-true, not-false}
-use Rattle.storage.specs.Stored.{stored}
+use Rattle.model.specs.Contract.{stored}
 use Rattle.poll.specs.Answers.{pollAnswer}
 use Rattle.poll.proofs.Polling.{drains, nothing-out, is-handing, is-lost, packet-out}
 use borrow.Author.Needs.{needs}

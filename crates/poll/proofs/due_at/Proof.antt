@@ -8,7 +8,7 @@ use borrow.Author.Tests.{not-true, not-false}
 use Rattle.model.specs.Records.{Entry}
 use Rattle.model.specs.Storage.{PAYLOAD-BYTES, entriesOf, parse}
 use Rattle.model.proofs.Laid.{length-entriesOf}
-use Rattle.storage.specs.Stored.{stored}
+use Rattle.model.specs.Contract.{stored}
 use Rattle.poll.proofs.Fronts.{hands-some, first-is}
 use Rattle.poll.proofs.Losing.{due-none, due-some}
 use borrow.Author.Needs.{needs}

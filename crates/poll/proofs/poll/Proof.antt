@@ -1,7 +1,7 @@
 -- `poll` meets its contract: refused, nothing is touched; accepted, what `accept` does is what the call does.
 use mathlib.Core.Path.{_≡_, refl, _∙_}
 use Rattle.rtp_packet.specs.Datagram.{LARGEST-PAYLOAD}
-use Rattle.storage.specs.Stored.{stored}
+use Rattle.model.specs.Contract.{stored}
 use Rattle.poll.specs.Answers.{pollAnswer}
 use Rattle.poll.proofs.Early.{earlyRefusal, early-is}
 use Rattle.poll.proofs.Polling.{poll-early, poll-counted, poll-fits, poll-late, poll-sound, poll-taken, poll-done}

@@ -1,6 +1,6 @@
 -- `insert_packet` meets its contract: an entry, the gaps and the queue's own records, each as `model` says.
 use Rattle.push.proofs.Media.{ready-for, counters-fit, takes, inserted-packet}
-use Rattle.storage.specs.Stored.{stored}
+use Rattle.model.specs.Contract.{stored}
 use native.Mathlib.Omega.{arith}
 use borrow.Author.Needs.{needs}
 use Rattle.push.proofs.insert_packet.Statement.{statement}

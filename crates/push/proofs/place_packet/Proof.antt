@@ -5,7 +5,7 @@ use borrow.Author.Tests.{not-true, not-false}
 use Rattle.model.specs.Rules.{waits}
 use Rattle.session.specs.Place.{place}
 use Rattle.push.specs.Answers.{mediaAnswer}
-use Rattle.storage.specs.Stored.{stored}
+use Rattle.model.specs.Contract.{stored}
 use Rattle.push.specs.Media.{placedAnswer}
 use Rattle.push.proofs.Media.{dropped-fits, dropped-packet}
 use borrow.Author.Needs.{needs}

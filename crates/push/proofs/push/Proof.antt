@@ -2,7 +2,7 @@
 use Rattle.storage.proofs.Settled.{passed-16}
 use Rattle.push.proofs.Pushing.{payload-is, media-early, media-unread, media-read}
 use Rattle.push.specs.Answers.{mediaAnswer}
-use Rattle.storage.specs.Stored.{stored}
+use Rattle.model.specs.Contract.{stored}
 use Rattle.model.proofs.SoundQueue.{clock-of}
 use Rattle.rtp_packet.proofs.Bounds.{payload-fits}
 use Rattle.rtp_packet.proofs.Answers.{parsed-packet, parsed-refused}

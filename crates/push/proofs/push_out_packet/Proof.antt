@@ -1,6 +1,6 @@
 -- `push_out_packet` meets its contract: an entry, the gaps and the queue's own records, each as `model` says.
 use Rattle.push.proofs.Media.{ready-for, counters-fit, takes, opened-in, opened-ascend, still-fits, pushed-out-packet}
-use Rattle.storage.specs.Stored.{stored}
+use Rattle.model.specs.Contract.{stored}
 use mathlib.Core.List.{[]}
 use borrow.Author.Needs.{needs}
 use Rattle.push.proofs.push_out_packet.Statement.{statement}

@@ -2,7 +2,7 @@
 use Rattle.push.proofs.Pushing.{counts-are, incoming-of, fit-of, place-refused, place-accepted}
 use Rattle.storage.proofs.Settled.{checked}
 use Rattle.push.specs.Answers.{mediaAnswer}
-use Rattle.storage.specs.Stored.{stored}
+use Rattle.model.specs.Contract.{stored}
 use Rattle.model.specs.Storage.{parse}
 use Rattle.model.specs.Push.{mediaPlace}
 use native.Mathlib.Omega.{arith}

@@ -1,7 +1,7 @@
 -- `session_sound` meets its contract: the same tests, each made only where those before it passed.
 use mathlib.Core.Path.{sym, _∙_}
 use borrow.Author.Tests.{not-true, not-false}
-use Rattle.storage.specs.Stored.{storage, stored}
+use Rattle.model.specs.Contract.{storage, stored}
 use Rattle.storage.proofs.Checking.{lengths-of, counts-of, room-of, valid-usable, bad-config, bad-lengths, bad-counts, bad-queue, left-lists}
 use borrow.Author.Needs.{needs}
 use Rattle.storage.proofs.session_sound.Statement.{statement}

@@ -1,6 +1,6 @@
 -- `settle` meets its contract: each list is laid out as it was read.
 use Rattle.model.specs.Storage.{parse}
-use Rattle.storage.specs.Stored.{stored}
+use Rattle.model.specs.Contract.{stored}
 use Rattle.storage.proofs.Settled.{checked, settled}
 use borrow.Author.Needs.{needs}
 use Rattle.storage.proofs.settle.Statement.{statement}

@@ -1,6 +1,6 @@
 -- `poll_nack` meets its contract: refused, nothing is touched; accepted, what `accept` does is what the call does.
 use mathlib.Core.Path.{_≡_, refl, _∙_}
-use Rattle.storage.specs.Stored.{stored}
+use Rattle.model.specs.Contract.{stored}
 use Rattle.poll.specs.Answers.{nackAnswer}
 use Rattle.poll.proofs.Early.{earlyRefusal, early-is}
 use Rattle.poll.proofs.Nacking.{nack-early, nack-sound, nack-room, nack-timed, nack-bounded, nack-late, nack-taken, nack-done}

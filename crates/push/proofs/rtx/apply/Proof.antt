@@ -1,7 +1,7 @@
 -- `apply`, arm by arm.
 use Rattle.push.proofs.Repaired.{redundant-is}
 use Rattle.push.specs.Answers.{repairAnswer}
-use Rattle.storage.specs.Stored.{stored}
+use Rattle.model.specs.Contract.{stored}
 use Rattle.session.specs.Place.{fate}
 use mathlib.Core.Path.{refl}
 use borrow.Author.Needs.{needs}

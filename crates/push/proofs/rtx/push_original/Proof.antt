@@ -3,7 +3,7 @@ use Rattle.push.proofs.Repaired.{incoming-repair, fit-repair, fate-refu
 use Rattle.push.proofs.Pushing.{counts-are}
 use Rattle.storage.proofs.Settled.{checked}
 use Rattle.push.specs.Answers.{repairAnswer}
-use Rattle.storage.specs.Stored.{stored}
+use Rattle.model.specs.Contract.{stored}
 use Rattle.model.specs.Storage.{parse}
 use Rattle.model.specs.Push.{repairFate}
 use native.Mathlib.Omega.{arith}

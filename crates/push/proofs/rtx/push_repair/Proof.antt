@@ -1,7 +1,7 @@
 -- `push_repair` meets its contract: 10, then 11, then `push_original`.
 use Rattle.push.proofs.Repairing.{original-early, original-refused-is, original-is}
 use Rattle.push.specs.Answers.{repairAnswer}
-use Rattle.storage.specs.Stored.{stored}
+use Rattle.model.specs.Contract.{stored}
 use Rattle.rtp_packet.proofs.Bounds.{length-original}
 use Rattle.rtp_packet.proofs.Answers.{original-number, original-refused}
 use Rattle.rtp.specs.declared.SequenceNumber.{SequenceNumber}

@@ -3,7 +3,7 @@ use Rattle.push.proofs.Repairing.{repair-early, repair-unread, repair-r
 use Rattle.storage.proofs.Settled.{passed-16}
 use Rattle.push.proofs.Pushing.{payload-is}
 use Rattle.push.specs.Answers.{repairAnswer}
-use Rattle.storage.specs.Stored.{stored}
+use Rattle.model.specs.Contract.{stored}
 use Rattle.rtp_packet.proofs.Bounds.{payload-fits}
 use Rattle.rtp_packet.proofs.Answers.{parsed-packet, parsed-refused}
 use Rattle.rtp_packet.specs.Datagram.{LARGEST-REPAIR}

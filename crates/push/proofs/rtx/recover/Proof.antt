@@ -1,7 +1,7 @@
 -- `recover` meets its contract: an entry, the gap and the queue's own records, each as `model` says.
 use Rattle.push.proofs.Repaired.{ready-repair, open-gap, room-left, recovered-is}
 use Rattle.push.proofs.Placing.{length-filled}
-use Rattle.storage.specs.Stored.{stored}
+use Rattle.model.specs.Contract.{stored}
 use native.Mathlib.Omega.{arith}
 use borrow.Author.Needs.{needs}
 use Rattle.push.proofs.rtx.recover.Statement.{statement}

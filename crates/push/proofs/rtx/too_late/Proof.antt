@@ -1,6 +1,6 @@
 -- `too_late` meets its contract: the remembered numbers and the repair state, each as `model` says.
 use Rattle.push.proofs.Repaired.{ready-late, taken-some, late-is}
-use Rattle.storage.specs.Stored.{stored}
+use Rattle.model.specs.Contract.{stored}
 use borrow.Author.Needs.{needs}
 use Rattle.push.proofs.rtx.too_late.Statement.{statement}
 use Rattle.push.proofs.rtx.too_late.Tie as tie

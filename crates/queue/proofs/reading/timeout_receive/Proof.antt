@@ -5,7 +5,7 @@ use Rattle.model.specs.Calls as Calls
 use Rattle.model.specs.Calls.{outputOf}
 use Rattle.model.specs.Table.{callRefusal, refusal}
 use Rattle.queue.specs.Answers.{timeoutAnswer}
-use Rattle.storage.specs.Stored.{stored}
+use Rattle.model.specs.Contract.{stored}
 use Rattle.storage.proofs.Settled.{refused-is}
 use Rattle.queue.proofs.Unchanged.{timely-sound, receive-timed, received-timeout}
 use borrow.Author.Needs.{needs}
