@@ -1,195 +1,161 @@
 //! Cost of a packet, push to hand-out: the proved queue through its boundary, the Rust original, libre's jitter buffer, and
 //! the floor, which is clearing the storage once in each call. docs/PERFORMANCE.md has what it printed.
 
+mod cpu;
+mod stream;
 mod subjects;
 
-use std::hint::black_box;
-use std::time::{Duration, Instant};
+use stream::Stream;
 use subjects::{Floor, Settings, Subject};
 
-const STEP: u64 = 20_000_000;
-const TICKS: u32 = 160;
-const BATCHES: usize = 60;
-/// One in so many is lost, where packets are lost.
-const LOSS: u64 = 50;
-/// The sizes, D and G, that the table has.
+const BATCHES: usize = 100;
+/// The sizes, D and G, of the first table.
 const SIZES: [(usize, usize); 3] = [(16, 999), (100, 999), (1024, 4096)];
+/// Sessions in turn, so that storage is not in the nearest caches.
+const SESSIONS: usize = 128;
 
-/// A stream of 20 ms packets and what it asks of a queue at each step.
-struct Stream {
-    step: u64,
+/// What is measured in a row of a table.
+struct Case {
+    settings: Settings,
     lossy: bool,
-    media: Vec<u8>,
-    repair: Vec<u8>,
-    numbers: Vec<u16>,
-    calls: u64,
-    handed_out: u64,
+    sessions: usize,
 }
 
-impl Stream {
-    fn new(lossy: bool) -> Stream {
-        let mut media = vec![0x80, subjects::PT, 0, 0, 0, 0, 0, 0];
-        media.extend(subjects::SSRC.to_be_bytes());
-        media.extend((0..160).map(|byte| byte as u8));
-        let mut repair = media[..12].to_vec();
-        repair[1] = subjects::RTX_PT;
-        repair[8..12].copy_from_slice(&subjects::RTX_SSRC.to_be_bytes());
-        repair.extend([0, 0]);
-        repair.extend(&media[12..]);
-        Stream {
-            step: 0,
-            lossy,
-            media,
-            repair,
-            numbers: Vec::new(),
-            calls: 0,
-            handed_out: 0,
+impl Case {
+    fn new(max_entries: usize, max_gaps: usize, waiting: usize) -> Case {
+        let settings = Settings {
+            max_entries,
+            max_gaps,
+            waiting,
+        };
+        Case {
+            settings,
+            lossy: false,
+            sessions: 1,
         }
     }
 
-    /// Numbers start at 100, so that the first packets of a batch never wrap below 0.
-    fn number(&self) -> u16 {
-        (self.step + 100) as u16
-    }
-
-    fn advance(&mut self, subject: &mut dyn Subject) {
-        let now = (self.step + 1) * STEP;
-        if !(self.lossy && self.step % LOSS == LOSS - 1) {
-            let number = self.number();
-            self.media[2..4].copy_from_slice(&number.to_be_bytes());
-            self.media[4..8].copy_from_slice(&(self.step as u32).wrapping_mul(TICKS).to_be_bytes());
-            subject.push(now, black_box(&self.media));
-            self.calls += 1;
-        }
-        if self.lossy {
-            self.repair_lost(subject, now);
-        }
-        self.handed_out += u64::from(subject.poll(now));
-        self.calls += 1;
-        self.step += 1;
-    }
-
-    /// Repairs come one step after their NACK.
-    fn repair_lost(&mut self, subject: &mut dyn Subject, now: u64) {
-        for number in std::mem::take(&mut self.numbers) {
-            let back = self.number().wrapping_sub(number);
-            let timestamp = (self.step as u32)
-                .wrapping_sub(u32::from(back))
-                .wrapping_mul(TICKS);
-            self.repair[2..4].copy_from_slice(&number.to_be_bytes());
-            self.repair[4..8].copy_from_slice(&timestamp.to_be_bytes());
-            self.repair[12..14].copy_from_slice(&number.to_be_bytes());
-            subject.push_rtx(now, black_box(&self.repair));
-            self.calls += 1;
-        }
-        self.calls += 1;
-        if subject.timeout_nack(now) == Some(Duration::ZERO) {
-            subject.poll_nack(now, &mut self.numbers);
-            self.calls += 1;
-        }
+    /// Steps of every session to a batch: short, so that some batches run undisturbed; 50 steps have one loss.
+    fn steps(&self) -> usize {
+        if self.sessions > 1 { 10 } else { 50 }
     }
 }
 
-/// A subject with its own stream, and the best batch so far, in nanoseconds a packet.
+/// Sessions of one kind in turn, each with its own stream, and their best batch so far, in nanoseconds a packet.
 struct Run {
-    subject: Box<dyn Subject>,
-    stream: Stream,
+    sessions: Vec<(Box<dyn Subject>, Stream)>,
     best: f64,
 }
 
 impl Run {
-    fn new(subject: Box<dyn Subject>, lossy: bool, warm_up: usize) -> Run {
+    /// Sessions with as many packets waiting as the case says.
+    fn new(case: &Case, open: fn(&Settings) -> Box<dyn Subject>) -> Run {
+        let session = || (open(&case.settings), Stream::new(case.lossy));
+        let sessions = std::iter::repeat_with(session)
+            .take(case.sessions)
+            .collect();
         let mut run = Run {
-            subject,
-            stream: Stream::new(lossy),
+            sessions,
             best: f64::INFINITY,
         };
-        for _ in 0..warm_up {
-            run.stream.advance(run.subject.as_mut());
-        }
+        run.advance(2 * case.settings.waiting + 200);
         run
     }
 
-    fn batch(&mut self, steps: usize) {
-        let start = Instant::now();
+    fn advance(&mut self, steps: usize) {
         for _ in 0..steps {
-            self.stream.advance(self.subject.as_mut());
+            for (subject, stream) in &mut self.sessions {
+                stream.advance(subject.as_mut());
+            }
         }
-        self.best = self
-            .best
-            .min(start.elapsed().as_nanos() as f64 / steps as f64);
+    }
+
+    fn batch(&mut self, steps: usize) {
+        let packets = (steps * self.sessions.len()) as f64;
+        let time = cpu::time(|| self.advance(steps));
+        self.best = self.best.min(time / packets);
     }
 }
 
-fn row(settings: &Settings, lossy: bool) {
-    let warm_up = 2 * settings.waiting + 200;
-    let steps = if settings.max_entries > 500 {
-        200
-    } else {
-        1000
-    };
-    let mut floor = Floor::new(settings);
-    let mut runs: Vec<Run> = subjects::all(settings)
-        .into_iter()
-        .map(|subject| Run::new(subject, lossy, warm_up))
+/// Measures all kinds in turn, so that a busy machine slows them alike, and prints a row.
+fn row(case: &Case) {
+    let mut floors: Vec<Floor> = (0..case.sessions)
+        .map(|_| Floor::new(&case.settings))
+        .collect();
+    let mut runs: Vec<Run> = subjects::KINDS
+        .iter()
+        .map(|open| Run::new(case, *open))
         .collect();
     let mut clear = f64::INFINITY;
     for _ in 0..BATCHES {
-        clear = clear.min(floor.batch(steps));
+        clear = clear.min(subjects::clear(&mut floors, case.steps()));
         for run in &mut runs {
-            run.batch(steps);
+            run.batch(case.steps());
         }
     }
-    let ours = &runs[0];
+    let (ours, original) = (&runs[0].sessions[0].1, &runs[1].sessions[0].1);
     assert_eq!(
-        ours.stream.handed_out, runs[1].stream.handed_out,
+        ours.handed_out, original.handed_out,
         "ours and the original hand out alike"
     );
-    let calls = ours.stream.calls as f64 / ours.stream.step as f64;
-    print_row(settings, lossy, clear * calls, &runs, calls);
+    print(case, ours.calls as f64 / ours.steps() as f64, clear, &runs);
 }
 
-fn print_row(settings: &Settings, lossy: bool, floor: f64, runs: &[Run], calls: f64) {
-    let [ours, original] = [runs[0].best, runs[1].best];
+/// The floor is `clear`, one clearing of the storage, for each of the calls; the budget is 1.5 times that and 150 ns a call.
+fn print(case: &Case, calls: f64, clear: f64, runs: &[Run]) {
+    let Settings {
+        max_entries,
+        max_gaps,
+        waiting,
+    } = case.settings;
+    let stream = if case.lossy { "2 % lost" } else { "in order" };
+    let (ours, original) = (runs[0].best, runs[1].best);
     let peer = runs
         .get(2)
         .map_or("-".to_string(), |run| format!("{:.0}", run.best));
-    let limit = 1.5 * floor + 300.0 * calls / 2.0;
+    let floor = clear * calls;
+    let budget = 1.5 * floor + 150.0 * calls;
+    let verdict = if ours <= budget { "" } else { " EXCEEDED" };
     println!(
-        "| {}, {} | {} | {} | {:.2} | {:.0} | {:.0} | {:.0} | {} | {:.2} | {:.1} | {:.0}{} |",
-        settings.max_entries,
-        settings.max_gaps,
-        settings.waiting,
-        if lossy { "2 % lost" } else { "in order" },
-        calls,
-        floor,
-        ours,
-        original,
-        peer,
+        "| {max_entries}, {max_gaps} | {waiting} | {stream} | {calls:.2} | {floor:.0} | {ours:.0} | {original:.0} | {peer} | \
+         {:.2} | {:.0} | {budget:.0}{verdict} |",
         ours / floor,
         ours / original,
-        limit,
-        if ours <= limit { "" } else { " EXCEEDED" },
     );
 }
 
-fn main() {
+fn heading(text: &str) {
+    println!("\n{text}\n");
     println!(
         "| D, G | waiting | stream | calls | floor | ours | Rust | libre | ours : floor | ours : Rust | budget |"
     );
     println!("|---|---|---|---|---|---|---|---|---|---|---|");
+}
+
+fn main() {
+    heading("Nanoseconds a packet, one session:");
     for (max_entries, max_gaps) in SIZES {
         for waiting in [10, max_entries] {
             for lossy in [false, true] {
-                row(
-                    &Settings {
-                        max_entries,
-                        max_gaps,
-                        waiting,
-                    },
+                row(&Case {
                     lossy,
-                );
+                    ..Case::new(max_entries, max_gaps, waiting)
+                });
             }
         }
+    }
+    heading("Growth with D and G:");
+    for max_entries in [16, 32, 64, 128, 256, 512, 1024] {
+        row(&Case::new(max_entries, 999, 10));
+    }
+    for max_gaps in [2048, 4096] {
+        row(&Case::new(16, max_gaps, 10));
+    }
+    heading(&format!("{SESSIONS} sessions in turn:"));
+    for (max_entries, max_gaps) in SIZES {
+        row(&Case {
+            sessions: SESSIONS,
+            ..Case::new(max_entries, max_gaps, 10)
+        });
     }
 }

@@ -1,9 +1,10 @@
 //! What is measured, each behind the same calls.
 
+use crate::cpu;
 use bizhgemu::{Config, Queue, Rtx};
 use original::Original;
 use std::hint::black_box;
-use std::time::{Duration, Instant};
+use std::time::Duration;
 
 pub const PT: u8 = 0;
 pub const SSRC: u32 = 0x1234_5678;
@@ -33,15 +34,12 @@ pub trait Subject {
 }
 
 /// Ours first, then the original, then the others.
-pub fn all(settings: &Settings) -> Vec<Box<dyn Subject>> {
-    let mut subjects: Vec<Box<dyn Subject>> = vec![
-        Box::new(Proved::new(settings)),
-        Box::new(Rust::new(settings)),
-    ];
+pub const KINDS: &[fn(&Settings) -> Box<dyn Subject>] = &[
+    |settings| Box::new(Proved::new(settings)),
+    |settings| Box::new(Rust::new(settings)),
     #[cfg(peer)]
-    subjects.push(Box::new(peer::Libre::new(settings)));
-    subjects
-}
+    |settings| Box::new(peer::Libre::new(settings)),
+];
 
 /// The storage of a session, cleared.
 pub struct Floor {
@@ -61,17 +59,26 @@ impl Floor {
         }
     }
 
-    /// Nanoseconds to clear the storage once.
-    pub fn batch(&mut self, steps: usize) -> f64 {
-        let start = Instant::now();
-        for _ in 0..steps {
-            black_box(&mut self.entries).fill(0);
-            black_box(&mut self.payloads).fill(0);
-            black_box(&mut self.gaps).fill(0);
-            black_box(&mut self.remembered).fill(0);
-        }
-        start.elapsed().as_nanos() as f64 / steps as f64
+    fn clear(&mut self) {
+        black_box(&mut self.entries).fill(0);
+        black_box(&mut self.payloads).fill(0);
+        black_box(&mut self.gaps).fill(0);
+        black_box(&mut self.remembered).fill(0);
     }
+}
+
+/// Nanoseconds to clear the storage of a session once; the sessions in turn, each twice in a row, as by push and poll.
+pub fn clear(floors: &mut [Floor], steps: usize) -> f64 {
+    let clears = (2 * steps * floors.len()) as f64;
+    let time = cpu::time(|| {
+        for _ in 0..steps {
+            for floor in floors.iter_mut() {
+                floor.clear();
+                floor.clear();
+            }
+        }
+    });
+    time / clears
 }
 
 struct Proved(Queue);

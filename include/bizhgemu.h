@@ -1,15 +1,17 @@
 /* The receive queue of one RTP stream: datagrams and instants in; packets in order, NACK lists and timeouts out.
  *
- * Link target/staticlib/libffi.a, which `rt staticlib ffi` makes; it needs nothing else. C99 or later, 64-bit. docs/USING.md tells how to choose
- * settings and drive the queue. No function allocates, blocks, reads a clock or keeps state of its own: a session is a struct that goes in by
- * value and comes back by value, its storage is four arrays that the caller owns. Different sessions may be used from different threads at once.
+ * Link target/staticlib/libffi.a, which `rt staticlib ffi` makes; it needs nothing else. C99 or later, 64-bit.
+ * docs/USING.md tells how to choose settings and drive the queue. No function allocates, blocks, reads a clock or keeps
+ * state of its own: a session is a struct that goes in by value and comes back by value, its storage is four arrays that
+ * the caller owns. Different sessions may be used from different threads at once.
  *
- * The caller owes what C cannot check: each pointer names live memory of the length beside it, and no two of them overlap. Every VALUE is
- * checked, damaged sessions and storage included. A refused call (`refusal` not 0) changes nothing: the session comes back as it was given, word for
- * word, and no array is written to. After an accepted call every unused place of the storage holds zeros.
+ * The caller owes what C cannot check: each pointer names live memory of the length beside it, and no two of them overlap.
+ * Every VALUE is checked, damaged sessions and storage included. A refused call (`refusal` not 0) changes nothing: the
+ * session comes back as it was given, word for word, and no array is written to. After an accepted call every unused
+ * place of the storage holds zeros.
  *
- * Instants are nanoseconds since the box started, from a clock that never goes back, at most BIZHGEMU_LATEST. Durations are nanoseconds. Flags are
- * words, 0 or 1; a value beside a flag that is 0 is 0, and so is every answer of a refused call.
+ * Instants are nanoseconds since the box started, from a clock that never goes back, at most BIZHGEMU_LATEST. Durations
+ * are nanoseconds. Flags are words, 0 or 1; a value beside a flag that is 0 is 0, and so is every answer of a refused call.
  *
  * Most programs want `struct bizhgemu_queue` and the functions named bizhgemu_queue_*, at the end of this file. */
 
@@ -136,7 +138,8 @@ struct bizhgemu_pushed {
 	struct bizhgemu_session session;
 };
 
-/* A packet that is handed out; its payload is in the lent output. A repair has its original number, and payload type and SSRC of media. */
+/* A packet that is handed out; its payload is in the lent output. A repair has its original number, and payload type and
+ * SSRC of media. */
 struct bizhgemu_packet {
 	uint64_t has_received_at; /* 0 for a repair */
 	uint64_t received_at;     /* when it came */
@@ -249,12 +252,13 @@ struct bizhgemu_pushed bizhgemu_push(struct bizhgemu_session session, BIZHGEMU_S
 struct bizhgemu_pushed bizhgemu_push_rtx(struct bizhgemu_session session, BIZHGEMU_STORAGE,
 	uint64_t now, const uint8_t *datagram, size_t datagram_len);
 
-/* Hands out the next packet that is due: its payload is written to `out`, of at least 320 bytes; what lies behind it there is kept. Call it until
- * it hands out nothing. Refused under 16, 15, 8, 14. */
+/* Hands out the next packet that is due: its payload is written to `out`, of at least 320 bytes; what lies behind it there
+ * is kept. Call it until it hands out nothing. Refused under 16, 15, 8, 14. */
 struct bizhgemu_polled bizhgemu_poll(struct bizhgemu_session session, BIZHGEMU_STORAGE,
 	uint64_t now, uint8_t *out, size_t out_len);
 
-/* Writes the numbers to ask the sender for again to `out`, of at least max_gaps numbers, ascending by extended number. Refused under 16, 15, 8, 14. */
+/* Writes the numbers to ask the sender for again to `out`, of at least max_gaps numbers, ascending by extended number.
+ * Refused under 16, 15, 8, 14. */
 struct bizhgemu_polled_nack bizhgemu_poll_nack(struct bizhgemu_session session, BIZHGEMU_STORAGE,
 	uint64_t now, uint16_t *out, size_t out_len);
 
@@ -273,7 +277,8 @@ struct bizhgemu_highest bizhgemu_highest_sequence_number_received(struct bizhgem
 /* The figures a box shows. Refused under 16 where the session itself is not sound; the storage is not looked at. */
 struct bizhgemu_figures bizhgemu_figures(struct bizhgemu_session session);
 
-/* A session with its storage. Fill in the four pointers with arrays of the lengths that BIZHGEMU_ENTRIES and so on give, then open it. */
+/* A session with its storage. Fill in the four pointers with arrays of the lengths that BIZHGEMU_ENTRIES and so on give,
+ * then open it. */
 struct bizhgemu_queue {
 	struct bizhgemu_session session;
 	uint64_t *entries;
@@ -290,7 +295,8 @@ struct bizhgemu_queue {
 	(q)->entries, (q)->entries_len, (q)->payloads, (q)->payloads_len, \
 	(q)->gaps, (q)->gaps_len, (q)->remembered, (q)->remembered_len
 
-/* The calls again, on a queue: the answer is the same struct, and the session in the queue follows it. A refused call leaves the queue as it was. */
+/* The calls again, on a queue: the answer is the same struct, and the session in the queue follows it. A refused call
+ * leaves the queue as it was. */
 
 static inline struct bizhgemu_opened bizhgemu_queue_open(struct bizhgemu_queue *q, struct bizhgemu_config config)
 {

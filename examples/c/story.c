@@ -78,8 +78,8 @@ static int wake(struct bizhgemu_queue *q, uint64_t ms)
 	struct bizhgemu_polled polled = bizhgemu_queue_poll(q, ms * MS, payload, sizeof payload);
 	while (polled.has_packet) {
 		const struct bizhgemu_packet *packet = &polled.packet;
-		printf("%3d ms  out %5u, timestamp %u, %zu bytes of %02x%s\n", (int)ms, packet->sequence_number, packet->timestamp, packet->size,
-			payload[0], packet->has_received_at ? "" : ", repaired");
+		printf("%3d ms  out %5u, timestamp %u, %zu bytes of %02x%s\n", (int)ms, packet->sequence_number, packet->timestamp,
+			packet->size, payload[0], packet->has_received_at ? "" : ", repaired");
 		polled = bizhgemu_queue_poll(q, ms * MS, payload, sizeof payload);
 	}
 
@@ -95,8 +95,8 @@ static int figures(const struct bizhgemu_queue *q)
 {
 	const struct bizhgemu_figures f = bizhgemu_queue_figures(q);
 	const struct bizhgemu_rtx_stats r = bizhgemu_queue_rtx_stats(q);
-	printf("received %d, dropped %d, lost %d, loss %.4f, jitter %.3f ms\n", (int)f.packets_received, (int)f.packets_dropped, (int)f.packets_lost,
-		(double)f.loss, (double)f.jitter / 1e6);
+	printf("received %d, dropped %d, lost %d, loss %.4f, jitter %.3f ms\n", (int)f.packets_received, (int)f.packets_dropped,
+		(int)f.packets_lost, (double)f.loss, (double)f.jitter / 1e6);
 	printf("repairs in time %d, round trip %.3f ms\n", (int)r.packets_received_in_time, (double)r.rtt / 1e6);
 	return f.refusal || r.refusal;
 }

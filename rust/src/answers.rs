@@ -3,7 +3,8 @@ use std::time::Duration;
 /// What became of a media packet.
 #[derive(Clone, Copy, Debug, PartialEq, Eq)]
 pub enum Media {
-    /// It waits to be handed out. With [`Config::max_entries`](crate::Config::max_entries) already waiting, the front one went in its place.
+    /// It waits to be handed out. With [`Config::max_entries`](crate::Config::max_entries) already waiting, the front one was
+    /// pushed out.
     Queued,
     /// A duplicate, or too late. Many in a row: the sender restarted, and a new session is due.
     Dropped,

@@ -3,13 +3,15 @@ use crate::config::Config;
 use crate::ffi;
 use crate::refusal::Refusal;
 use crate::time::nanoseconds;
+use std::fmt;
 use std::time::Duration;
 
 /// The longest payload: what `poll` is lent to write into.
 pub(crate) const LONGEST_PAYLOAD: usize = 320;
 
 /// The storage of a session, of the exact lengths that its settings ask for.
-#[derive(Clone, Debug, PartialEq)]
+#[derive(Clone)]
+#[cfg_attr(test, derive(Debug, PartialEq))]
 pub(crate) struct Storage {
     pub(crate) entries: Box<[u64]>,
     pub(crate) payloads: Box<[u8]>,
@@ -80,9 +82,14 @@ pub(crate) use lend;
 
 /// The receive queue of one RTP stream. It owns its session and storage; opening is the only time it allocates.
 ///
-/// Instants are durations since the box started, from one [`Clock`](crate::Clock). `push`, `push_rtx`, `poll` and `poll_nack` advance the
-/// queue's clock where they are accepted; an instant before it is refused under 8, and so is one above [`LATEST`](crate::LATEST). The timeouts don't advance it.
-#[derive(Clone, Debug)]
+/// Instants are durations since the box started, from one [`Clock`](crate::Clock). `push`, `push_rtx`, `poll` and
+/// `poll_nack` advance the queue's clock where they are accepted; an instant before it is refused under 8, and so is one
+/// above [`LATEST`](crate::LATEST). The timeouts don't advance it.
+///
+/// The numbers under "Errors" stand in the order in which they are checked. Every call looks through session and storage
+/// first and refuses under 16 what is damaged; since a queue owns both, that means that memory was overwritten. Calls that
+/// only read take `&mut self` because every accepted call leaves zeros in unused storage.
+#[derive(Clone)]
 pub struct Queue {
     pub(crate) session: ffi::Session,
     pub(crate) storage: Storage,
@@ -112,7 +119,7 @@ impl Queue {
     ///
     /// # Errors
     ///
-    /// 8; 2 to 7 for the datagram; 14; 12.
+    /// Refused under 8; 2 to 7; 14; 12.
     pub fn push(&mut self, now: Duration, datagram: &[u8]) -> Result<Media, Refusal> {
         let pushed = lend!(
             bizhgemu_push,
@@ -135,7 +142,7 @@ impl Queue {
     ///
     /// # Errors
     ///
-    /// 8; 9; 2 to 7 for the datagram; 10; 11; 14; 13.
+    /// Refused under 8; 9; 2 to 7; 10; 11; 14; 13.
     pub fn push_rtx(&mut self, now: Duration, datagram: &[u8]) -> Result<Repair, Refusal> {
         let pushed = lend!(
             bizhgemu_push_rtx,
@@ -158,7 +165,7 @@ impl Queue {
     ///
     /// # Errors
     ///
-    /// 8; 14.
+    /// Refused under 8; 14.
     pub fn poll(&mut self, now: Duration) -> Result<Option<Packet<'_>>, Refusal> {
         let polled = lend!(
             bizhgemu_poll,
@@ -190,7 +197,7 @@ impl Queue {
     ///
     /// # Errors
     ///
-    /// 8; 14.
+    /// Refused under 8; 14.
     pub fn poll_nack(&mut self, now: Duration) -> Result<&[u16], Refusal> {
         let polled = lend!(
             bizhgemu_poll_nack,
@@ -209,7 +216,7 @@ impl Queue {
     ///
     /// # Errors
     ///
-    /// 8.
+    /// Refused under 8.
     pub fn timeout_receive(&mut self, now: Duration) -> Result<Option<Duration>, Refusal> {
         let answer = lend!(
             bizhgemu_timeout_receive,
@@ -224,7 +231,7 @@ impl Queue {
     ///
     /// # Errors
     ///
-    /// 8.
+    /// Refused under 8.
     pub fn timeout_nack(&mut self, now: Duration) -> Result<Option<Duration>, Refusal> {
         let answer = lend!(
             bizhgemu_timeout_nack,
@@ -239,7 +246,7 @@ impl Queue {
     ///
     /// # Errors
     ///
-    /// 8.
+    /// Refused under 8.
     pub fn timeout(&mut self, now: Duration) -> Result<Option<Duration>, Refusal> {
         let receive = self.timeout_receive(now)?;
         let nack = self.timeout_nack(now)?;
@@ -250,7 +257,7 @@ impl Queue {
     ///
     /// # Errors
     ///
-    /// 16 alone.
+    /// Refused under 16 alone.
     pub fn rtx_stats(&mut self) -> Result<Option<RtxStats>, Refusal> {
         let stats = lend!(bizhgemu_rtx_stats, self.session, self.storage);
         Refusal::check(stats.refusal)?;
@@ -270,7 +277,7 @@ impl Queue {
     ///
     /// # Errors
     ///
-    /// 16 alone.
+    /// Refused under 16 alone.
     pub fn highest_sequence_number_received(&mut self) -> Result<Option<u64>, Refusal> {
         let highest = lend!(
             bizhgemu_highest_sequence_number_received,
@@ -285,7 +292,7 @@ impl Queue {
     ///
     /// # Errors
     ///
-    /// 16 alone.
+    /// Refused under 16 alone.
     pub fn figures(&self) -> Result<Figures, Refusal> {
         let figures = ffi::bizhgemu_figures(self.session);
         Refusal::check(figures.refusal)?;
@@ -297,6 +304,14 @@ impl Queue {
             jitter: Duration::from_nanos(figures.jitter),
             loss: figures.loss,
         })
+    }
+}
+
+impl fmt::Debug for Queue {
+    fn fmt(&self, f: &mut fmt::Formatter<'_>) -> fmt::Result {
+        f.debug_struct("Queue")
+            .field("session", &self.session)
+            .finish_non_exhaustive()
     }
 }
 

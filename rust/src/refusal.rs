@@ -70,7 +70,7 @@ const TABLE: [(Refusal, &str, &str); 16] = [
     (
         Refusal::PayloadType,
         "the payload type is not the session's",
-        "drop it if it is RTCP; if loss rises beside it, the sender mixes payload types in one stream: switch the other off, or open the session with the one it uses",
+        "drop it if it is RTCP; if loss rises beside it, the sender mixes payload types in one stream: switch the other one off",
     ),
     (
         Refusal::Ssrc,

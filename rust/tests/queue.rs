@@ -16,6 +16,12 @@ fn ms(milliseconds: u64) -> Duration {
     Duration::from_millis(milliseconds)
 }
 
+/// A queue may be handed from thread to thread.
+const _: fn() = || {
+    fn is<T: Send + Sync + 'static>() {}
+    is::<Queue>();
+};
+
 #[test]
 fn a_packet_has_the_values_it_was_sent_with() -> Result<(), Refusal> {
     let config = Config {
