@@ -16,10 +16,7 @@ unsafe extern "C" {
 }
 
 fn now() -> f64 {
-    let mut time = Timespec {
-        seconds: 0,
-        nanoseconds: 0,
-    };
+    let mut time = Timespec { seconds: 0, nanoseconds: 0 };
     // SAFETY: a live place of the type that the function writes.
     let failed = unsafe { clock_gettime(CLOCK_THREAD_CPUTIME_ID, &mut time) };
     assert_eq!(failed, 0);

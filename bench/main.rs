@@ -23,16 +23,8 @@ struct Case {
 
 impl Case {
     fn new(max_entries: usize, max_gaps: usize, waiting: usize) -> Case {
-        let settings = Settings {
-            max_entries,
-            max_gaps,
-            waiting,
-        };
-        Case {
-            settings,
-            lossy: false,
-            sessions: 1,
-        }
+        let settings = Settings { max_entries, max_gaps, waiting };
+        Case { settings, lossy: false, sessions: 1 }
     }
 
     /// Steps of every session to a batch: short, so that some batches run undisturbed; 50 steps have one loss.
@@ -51,13 +43,8 @@ impl Run {
     /// Sessions with as many packets waiting as the case says.
     fn new(case: &Case, open: fn(&Settings) -> Box<dyn Subject>) -> Run {
         let session = || (open(&case.settings), Stream::new(case.lossy));
-        let sessions = std::iter::repeat_with(session)
-            .take(case.sessions)
-            .collect();
-        let mut run = Run {
-            sessions,
-            best: f64::INFINITY,
-        };
+        let sessions = std::iter::repeat_with(session).take(case.sessions).collect();
+        let mut run = Run { sessions, best: f64::INFINITY };
         run.advance(2 * case.settings.waiting + 200);
         run
     }
@@ -79,13 +66,8 @@ impl Run {
 
 /// Measures all kinds in turn, so that a busy machine slows them alike, and prints a row.
 fn row(case: &Case) {
-    let mut floors: Vec<Floor> = (0..case.sessions)
-        .map(|_| Floor::new(&case.settings))
-        .collect();
-    let mut runs: Vec<Run> = subjects::KINDS
-        .iter()
-        .map(|open| Run::new(case, *open))
-        .collect();
+    let mut floors: Vec<Floor> = (0..case.sessions).map(|_| Floor::new(&case.settings)).collect();
+    let mut runs: Vec<Run> = subjects::KINDS.iter().map(|open| Run::new(case, *open)).collect();
     let mut clear = f64::INFINITY;
     for _ in 0..BATCHES {
         clear = clear.min(subjects::clear(&mut floors, case.steps()));
@@ -94,25 +76,16 @@ fn row(case: &Case) {
         }
     }
     let (ours, original) = (&runs[0].sessions[0].1, &runs[1].sessions[0].1);
-    assert_eq!(
-        ours.handed_out, original.handed_out,
-        "ours and the original hand out alike"
-    );
+    assert_eq!(ours.handed_out, original.handed_out, "ours and the original hand out alike");
     print(case, ours.calls as f64 / ours.steps() as f64, clear, &runs);
 }
 
 /// The floor is `clear`, one clearing of the storage, for each of the calls; the budget is 1.5 times that and 150 ns a call.
 fn print(case: &Case, calls: f64, clear: f64, runs: &[Run]) {
-    let Settings {
-        max_entries,
-        max_gaps,
-        waiting,
-    } = case.settings;
+    let Settings { max_entries, max_gaps, waiting } = case.settings;
     let stream = if case.lossy { "2 % lost" } else { "in order" };
     let (ours, original) = (runs[0].best, runs[1].best);
-    let peer = runs
-        .get(2)
-        .map_or("-".to_string(), |run| format!("{:.0}", run.best));
+    let peer = runs.get(2).map_or("-".to_string(), |run| format!("{:.0}", run.best));
     let floor = clear * calls;
     let budget = 1.5 * floor + 150.0 * calls;
     let verdict = if ours <= budget { "" } else { " EXCEEDED" };
@@ -126,9 +99,7 @@ fn print(case: &Case, calls: f64, clear: f64, runs: &[Run]) {
 
 fn heading(text: &str) {
     println!("\n{text}\n");
-    println!(
-        "| D, G | waiting | stream | calls | floor | ours | Rust | libre | ours : floor | ours : Rust | budget |"
-    );
+    println!("| D, G | waiting | stream | calls | floor | ours | Rust | libre | ours : floor | ours : Rust | budget |");
     println!("|---|---|---|---|---|---|---|---|---|---|---|");
 }
 
@@ -137,10 +108,7 @@ fn main() {
     for (max_entries, max_gaps) in SIZES {
         for waiting in [10, max_entries] {
             for lossy in [false, true] {
-                row(&Case {
-                    lossy,
-                    ..Case::new(max_entries, max_gaps, waiting)
-                });
+                row(&Case { lossy, ..Case::new(max_entries, max_gaps, waiting) });
             }
         }
     }
@@ -153,9 +121,6 @@ fn main() {
     }
     heading(&format!("{SESSIONS} sessions in turn:"));
     for (max_entries, max_gaps) in SIZES {
-        row(&Case {
-            sessions: SESSIONS,
-            ..Case::new(max_entries, max_gaps, 10)
-        });
+        row(&Case { sessions: SESSIONS, ..Case::new(max_entries, max_gaps, 10) });
     }
 }

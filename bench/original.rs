@@ -24,9 +24,7 @@ include!("opt_min.rs");
 
 use rtp::{RtpExtensions, RtpPacket, RtpTimestamp, SequenceNumber, Ssrc};
 use rtp_session::inbound::queue::Queue;
-use rtp_session::inbound::{
-    RtpInboundQueueMode, RtpInboundSortedQueueConfig, RtpInboundStreamSortedQueueMode,
-};
+use rtp_session::inbound::{RtpInboundQueueMode, RtpInboundSortedQueueConfig, RtpInboundStreamSortedQueueMode};
 use std::sync::atomic::{AtomicUsize, Ordering::Relaxed};
 use std::time::{Duration, Instant};
 
@@ -45,23 +43,12 @@ pub struct Original {
 
 impl Original {
     /// A sorted queue; the NACK timings are the original's defaults.
-    pub fn open(
-        delay: Duration,
-        clock_rate: u32,
-        pt: u8,
-        ssrc: u32,
-        rtx_pt: u8,
-        rtx_ssrc: u32,
-    ) -> Original {
+    pub fn open(delay: Duration, clock_rate: u32, pt: u8, ssrc: u32, rtx_pt: u8, rtx_ssrc: u32) -> Original {
         let mode = RtpInboundQueueMode::SortedQueue(RtpInboundSortedQueueConfig {
             mode: RtpInboundStreamSortedQueueMode::Fixed(delay),
             ..Default::default()
         });
-        Original {
-            queue: Queue::new(mode, pt, Ssrc(ssrc), clock_rate, true),
-            rtx_pt,
-            rtx_ssrc,
-        }
+        Original { queue: Queue::new(mode, pt, Ssrc(ssrc), clock_rate, true), rtx_pt, rtx_ssrc }
     }
 
     /// D, for all queues at once.

@@ -25,28 +25,9 @@ pub struct Stream {
 impl Stream {
     pub fn new(lossy: bool) -> Stream {
         let payload: Vec<u8> = (0..160).collect();
-        let media = [
-            &[0x80, PT, 0, 0, 0, 0, 0, 0],
-            &SSRC.to_be_bytes()[..],
-            &payload,
-        ]
-        .concat();
-        let repair = [
-            &[0x80, RTX_PT, 0, 0, 0, 0, 0, 0],
-            &RTX_SSRC.to_be_bytes()[..],
-            &[0, 0],
-            &payload,
-        ]
-        .concat();
-        Stream {
-            step: 0,
-            lossy,
-            media,
-            repair,
-            numbers: Vec::new(),
-            calls: 0,
-            handed_out: 0,
-        }
+        let media = [&[0x80, PT, 0, 0, 0, 0, 0, 0], &SSRC.to_be_bytes()[..], &payload].concat();
+        let repair = [&[0x80, RTX_PT, 0, 0, 0, 0, 0, 0], &RTX_SSRC.to_be_bytes()[..], &[0, 0], &payload].concat();
+        Stream { step: 0, lossy, media, repair, numbers: Vec::new(), calls: 0, handed_out: 0 }
     }
 
     pub fn steps(&self) -> u64 {
@@ -57,11 +38,7 @@ impl Stream {
     pub fn advance(&mut self, subject: &mut dyn Subject) {
         let now = (self.step + 1) * STEP;
         if !self.lossy || self.step % LOSS != LOSS - 1 {
-            write(
-                &mut self.media,
-                self.step as u16,
-                timestamp(self.step as u32),
-            );
+            write(&mut self.media, self.step as u16, timestamp(self.step as u32));
             subject.push(now, black_box(&self.media));
             self.calls += 1;
         }
@@ -78,11 +55,7 @@ impl Stream {
     fn repair(&mut self, subject: &mut dyn Subject, now: u64) {
         for number in std::mem::take(&mut self.numbers) {
             let back = (self.step as u16).wrapping_sub(number);
-            write(
-                &mut self.repair,
-                number,
-                timestamp((self.step as u32).wrapping_sub(back.into())),
-            );
+            write(&mut self.repair, number, timestamp((self.step as u32).wrapping_sub(back.into())));
             self.repair[12..14].copy_from_slice(&number.to_be_bytes());
             subject.push_rtx(now, black_box(&self.repair));
             self.calls += 1;

@@ -91,10 +91,7 @@ impl Proved {
             max_gaps: settings.max_gaps,
             payload_type: PT,
             ssrc: SSRC,
-            rtx: Some(Rtx {
-                payload_type: RTX_PT,
-                ssrc: RTX_SSRC,
-            }),
+            rtx: Some(Rtx { payload_type: RTX_PT, ssrc: RTX_SSRC }),
             ..Config::default()
         };
         Proved(Queue::open(&config).expect("settings in range"))
@@ -103,15 +100,11 @@ impl Proved {
 
 impl Subject for Proved {
     fn push(&mut self, now: u64, datagram: &[u8]) {
-        self.0
-            .push(Duration::from_nanos(now), datagram)
-            .expect("accepted");
+        self.0.push(Duration::from_nanos(now), datagram).expect("accepted");
     }
 
     fn push_rtx(&mut self, now: u64, datagram: &[u8]) {
-        self.0
-            .push_rtx(Duration::from_nanos(now), datagram)
-            .expect("accepted");
+        self.0.push_rtx(Duration::from_nanos(now), datagram).expect("accepted");
     }
 
     fn poll(&mut self, now: u64) -> bool {
@@ -120,17 +113,11 @@ impl Subject for Proved {
     }
 
     fn timeout_nack(&mut self, now: u64) -> Option<Duration> {
-        self.0
-            .timeout_nack(Duration::from_nanos(now))
-            .expect("accepted")
+        self.0.timeout_nack(Duration::from_nanos(now)).expect("accepted")
     }
 
     fn poll_nack(&mut self, now: u64, numbers: &mut Vec<u16>) {
-        numbers.extend_from_slice(
-            self.0
-                .poll_nack(Duration::from_nanos(now))
-                .expect("accepted"),
-        );
+        numbers.extend_from_slice(self.0.poll_nack(Duration::from_nanos(now)).expect("accepted"));
     }
 }
 
@@ -143,10 +130,7 @@ impl Rust {
     fn new(settings: &Settings) -> Rust {
         Original::set_depth(settings.max_entries);
         let queue = Original::open(settings.delay(), 8_000, PT, SSRC, RTX_PT, RTX_SSRC);
-        Rust {
-            queue,
-            payload: [0; 320],
-        }
+        Rust { queue, payload: [0; 320] }
     }
 }
 
@@ -200,27 +184,15 @@ mod peer {
     impl Libre {
         pub fn new(settings: &Settings) -> Libre {
             // SAFETY: two numbers.
-            let buffer = unsafe {
-                peer_open(
-                    settings.waiting as u32 - 1,
-                    2 * settings.max_entries as u32 + 20,
-                )
-            };
+            let buffer = unsafe { peer_open(settings.waiting as u32 - 1, 2 * settings.max_entries as u32 + 20) };
             assert!(!buffer.is_null());
-            Libre {
-                buffer,
-                datagram: [0; 1500],
-                payload: [0; 1500],
-                last: None,
-                missing: VecDeque::new(),
-            }
+            Libre { buffer, datagram: [0; 1500], payload: [0; 1500], last: None, missing: VecDeque::new() }
         }
 
         fn put(&mut self, datagram: &[u8]) {
             self.datagram[..datagram.len()].copy_from_slice(datagram);
             // SAFETY: a live buffer, and bytes of the length passed.
-            let refused =
-                unsafe { peer_put(self.buffer, self.datagram.as_mut_ptr(), datagram.len()) };
+            let refused = unsafe { peer_put(self.buffer, self.datagram.as_mut_ptr(), datagram.len()) };
             assert_eq!(refused, 0);
         }
     }

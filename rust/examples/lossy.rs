@@ -9,8 +9,7 @@ use std::time::{Duration, Instant};
 
 /// How many datagrams are kept to be sent again.
 const KEPT: usize = 512;
-const USAGE: &str =
-    "usage: lossy FROM TO LOSE-ONE-IN ROUND-TRIP-MS RTX-PT RTX-SSRC SECONDS, all numbers decimal";
+const USAGE: &str = "usage: lossy FROM TO LOSE-ONE-IN ROUND-TRIP-MS RTX-PT RTX-SSRC SECONDS, all numbers decimal";
 const TICK: Duration = Duration::from_millis(1);
 
 struct Way {
@@ -37,10 +36,7 @@ impl Way {
 
     /// Answers a line `NACK N1 N2 ..` by repairs, a round trip later.
     fn nack(&mut self, line: &str) {
-        for number in line
-            .split_whitespace()
-            .filter_map(|word| word.parse::<u16>().ok())
-        {
+        for number in line.split_whitespace().filter_map(|word| word.parse::<u16>().ok()) {
             let number = number.to_be_bytes();
             let Some(media) = self.kept.iter().rev().find(|media| media[2..4] == number) else {
                 continue;
@@ -52,8 +48,7 @@ impl Way {
             repair.extend(number);
             repair.extend(&media[12..]);
             self.rtx_number = self.rtx_number.wrapping_add(1);
-            self.repairs
-                .push_back((Instant::now() + self.round_trip, repair));
+            self.repairs.push_back((Instant::now() + self.round_trip, repair));
         }
     }
 
@@ -70,10 +65,7 @@ fn main() -> io::Result<()> {
     let [from, to, numbers @ ..] = words.as_slice() else {
         return Err(io::Error::other(USAGE));
     };
-    let numbers: Vec<u32> = numbers
-        .iter()
-        .filter_map(|word| word.parse().ok())
-        .collect();
+    let numbers: Vec<u32> = numbers.iter().filter_map(|word| word.parse().ok()).collect();
     let [lose_one_in, round_trip, rtx_pt, rtx_ssrc, seconds] = numbers[..] else {
         return Err(io::Error::other(USAGE));
     };
@@ -87,12 +79,7 @@ fn main() -> io::Result<()> {
         kept: VecDeque::new(),
         repairs: VecDeque::new(),
     };
-    run(
-        way,
-        &UdpSocket::bind(from)?,
-        to,
-        Instant::now() + Duration::from_secs(seconds.into()),
-    )
+    run(way, &UdpSocket::bind(from)?, to, Instant::now() + Duration::from_secs(seconds.into()))
 }
 
 fn run(mut way: Way, socket: &UdpSocket, to: &str, end: Instant) -> io::Result<()> {
@@ -100,9 +87,7 @@ fn run(mut way: Way, socket: &UdpSocket, to: &str, end: Instant) -> io::Result<(
     let mut bytes = [0; 2048];
     while Instant::now() < end {
         match socket.recv(&mut bytes) {
-            Ok(length) if bytes.starts_with(b"NACK ") => {
-                way.nack(&String::from_utf8_lossy(&bytes[..length]))
-            }
+            Ok(length) if bytes.starts_with(b"NACK ") => way.nack(&String::from_utf8_lossy(&bytes[..length])),
             Ok(length) if length >= 12 && way.media(&bytes[..length]) => {
                 socket.send_to(&bytes[..length], to)?;
             }

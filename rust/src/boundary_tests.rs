@@ -6,19 +6,10 @@ use crate::{Config, Mode, Queue, Refusal, Rtx};
 use std::time::Duration;
 
 const SSRC: u32 = 0x0102_0304;
-const RTX: Rtx = Rtx {
-    payload_type: 97,
-    ssrc: 0x0506_0708,
-};
+const RTX: Rtx = Rtx { payload_type: 97, ssrc: 0x0506_0708 };
 
 fn config() -> Config {
-    Config {
-        max_entries: 3,
-        payload_type: 5,
-        ssrc: SSRC,
-        rtx: Some(RTX),
-        ..Config::default()
-    }
+    Config { max_entries: 3, payload_type: 5, ssrc: SSRC, rtx: Some(RTX), ..Config::default() }
 }
 
 fn media(number: u16, timestamp: u32, payload: &[u8]) -> Vec<u8> {
@@ -74,38 +65,10 @@ fn refusals(queue: &Queue) -> [u64; 9] {
     let mut payload = [0xaa; LONGEST_PAYLOAD];
     let mut numbers = vec![0xaaaa; 4096];
     let session = queue.session;
-    let pushed = lend!(
-        bizhgemu_push,
-        session,
-        storage,
-        now,
-        datagram.as_ptr(),
-        datagram.len()
-    );
-    let repaired = lend!(
-        bizhgemu_push_rtx,
-        session,
-        storage,
-        now,
-        datagram.as_ptr(),
-        datagram.len()
-    );
-    let polled = lend!(
-        bizhgemu_poll,
-        session,
-        storage,
-        now,
-        payload.as_mut_ptr(),
-        payload.len()
-    );
-    let nacked = lend!(
-        bizhgemu_poll_nack,
-        session,
-        storage,
-        now,
-        numbers.as_mut_ptr(),
-        numbers.len()
-    );
+    let pushed = lend!(bizhgemu_push, session, storage, now, datagram.as_ptr(), datagram.len());
+    let repaired = lend!(bizhgemu_push_rtx, session, storage, now, datagram.as_ptr(), datagram.len());
+    let polled = lend!(bizhgemu_poll, session, storage, now, payload.as_mut_ptr(), payload.len());
+    let nacked = lend!(bizhgemu_poll_nack, session, storage, now, numbers.as_mut_ptr(), numbers.len());
     let answers = [
         pushed.refusal,
         repaired.refusal,
@@ -118,16 +81,8 @@ fn refusals(queue: &Queue) -> [u64; 9] {
         ffi::bizhgemu_figures(session).refusal,
     ];
     assert_eq!(storage, queue.storage);
-    assert_eq!(
-        (payload, numbers),
-        ([0xaa; LONGEST_PAYLOAD], vec![0xaaaa; 4096])
-    );
-    for returned in [
-        pushed.session,
-        repaired.session,
-        polled.session,
-        nacked.session,
-    ] {
+    assert_eq!((payload, numbers), ([0xaa; LONGEST_PAYLOAD], vec![0xaaaa; 4096]));
+    for returned in [pushed.session, repaired.session, polled.session, nacked.session] {
         assert_eq!(words(&returned), words(&session));
     }
     answers
@@ -135,48 +90,25 @@ fn refusals(queue: &Queue) -> [u64; 9] {
 
 /// The words of a session, so that NaN is compared too.
 fn words(session: &ffi::Session) -> Vec<u64> {
-    let c = session.config;
     let s = session;
-    vec![
-        c.delay,
-        c.initial_nack_delay,
-        c.default_nack_resend_delay,
-        c.nack_window,
-        c.max_entries as u64,
-        c.max_gaps as u64,
-        c.clock_rate.into(),
-        c.max_nack_attempts.into(),
-        c.mode.into(),
-        c.has_rtx.into(),
-        c.ssrc.into(),
-        c.rtx_ssrc.into(),
-        c.pt.into(),
-        c.rtx_pt.into(),
-        s.clock,
-        s.has_last,
-        s.last_instant,
-        s.last_timestamp,
-        s.last_number,
-        s.has_returned,
-        s.returned,
-        s.has_rtt,
-        s.srtt,
-        s.variation,
-        s.rtx_in_time,
-        s.rtx_too_late,
-        s.rtx_redundant,
-        s.rtx_bytes,
-        s.dropped,
-        s.received,
-        s.bytes,
-        s.lost,
-        s.jitter_clock_rate.to_bits(),
-        s.jitter.to_bits(),
-        s.entries as u64,
-        s.gaps as u64,
-        s.remembered as u64,
-        s.loss.to_bits().into(),
-    ]
+    let clock = [s.clock, s.has_last, s.last_instant, s.last_timestamp, s.last_number];
+    let round_trip = [s.has_returned, s.returned, s.has_rtt, s.srtt, s.variation];
+    let repairs = [s.rtx_in_time, s.rtx_too_late, s.rtx_redundant, s.rtx_bytes];
+    let counters = [s.dropped, s.received, s.bytes, s.lost];
+    let floats = [s.jitter_clock_rate.to_bits(), s.jitter.to_bits()];
+    let lists = [s.entries as u64, s.gaps as u64, s.remembered as u64];
+    let loss = [u64::from(s.loss.to_bits())];
+    let parts = [&clock[..], &round_trip, &repairs, &counters, &floats, &lists, &loss];
+    [config_words(&s.config), parts.concat()].concat()
+}
+
+fn config_words(config: &ffi::Config) -> Vec<u64> {
+    let c = config;
+    let durations = [c.delay, c.initial_nack_delay, c.default_nack_resend_delay, c.nack_window];
+    let sizes = [c.max_entries as u64, c.max_gaps as u64];
+    let words = [c.clock_rate, c.max_nack_attempts, c.mode, c.has_rtx, c.ssrc, c.rtx_ssrc];
+    let payload_types = [u64::from(c.pt), u64::from(c.rtx_pt)];
+    [&durations[..], &sizes, &words.map(u64::from), &payload_types].concat()
 }
 
 #[test]
@@ -193,10 +125,7 @@ fn the_opening_carries_every_setting() {
         nack_window: Duration::from_nanos(18),
         payload_type: 19,
         ssrc: 20,
-        rtx: Some(Rtx {
-            payload_type: 21,
-            ssrc: 22,
-        }),
+        rtx: Some(Rtx { payload_type: 21, ssrc: 22 }),
     };
     let session = Queue::open(&config).unwrap().session;
     let mut expected = vec![12, 15, 16, 18, 13, 1014, 11, 17, 0, 1, 20, 22, 19, 21];
@@ -218,16 +147,7 @@ fn a_used_session_has_each_word_in_its_place() {
     let counters = [4, 3, 22, 1];
     let floats = [8000f64.to_bits(), jitter.to_bits()];
     let lists = [2, 1, 1, u64::from(loss.to_bits())];
-    let expected = [
-        &settings[..],
-        &senders,
-        &received,
-        &repairs,
-        &counters,
-        &floats,
-        &lists,
-    ]
-    .concat();
+    let expected = [&settings[..], &senders, &received, &repairs, &counters, &floats, &lists].concat();
     assert_eq!(words(&queue.session), expected);
 }
 
@@ -264,22 +184,8 @@ fn a_short_output_is_refused() {
     let (session, mut storage, now) = (queue.session, queue.storage.clone(), queue.session.clock);
     let mut payload = [0; LONGEST_PAYLOAD - 1];
     let mut numbers = [0; 998];
-    let polled = lend!(
-        bizhgemu_poll,
-        session,
-        storage,
-        now,
-        payload.as_mut_ptr(),
-        payload.len()
-    );
-    let nacked = lend!(
-        bizhgemu_poll_nack,
-        session,
-        storage,
-        now,
-        numbers.as_mut_ptr(),
-        numbers.len()
-    );
+    let polled = lend!(bizhgemu_poll, session, storage, now, payload.as_mut_ptr(), payload.len());
+    let nacked = lend!(bizhgemu_poll_nack, session, storage, now, numbers.as_mut_ptr(), numbers.len());
     assert_eq!((polled.refusal, nacked.refusal), (15, 15));
     assert_eq!(storage, queue.storage);
 }
@@ -345,22 +251,14 @@ fn a_sound_session_is_not_refused() {
     let figures = ffi::bizhgemu_figures(queue.session);
     assert_eq!(figures.refusal, 0);
     let mut storage = queue.storage.clone();
-    let timeout = lend!(
-        bizhgemu_timeout_nack,
-        queue.session,
-        storage,
-        queue.session.clock
-    );
+    let timeout = lend!(bizhgemu_timeout_nack, queue.session, storage, queue.session.clock);
     assert_eq!((timeout.refusal, timeout.has_timeout), (0, 1));
 }
 
 #[test]
 fn flags_that_are_not_flags_are_refused_at_the_opening() {
     let mut queue = used();
-    for damage in [
-        |c: &mut ffi::Config| c.mode = 2,
-        |c: &mut ffi::Config| c.has_rtx = 3,
-    ] {
+    for damage in [|c: &mut ffi::Config| c.mode = 2, |c: &mut ffi::Config| c.has_rtx = 3] {
         let mut words = config().words();
         damage(&mut words);
         assert_eq!(queue.storage.open(words).refusal, 1);
@@ -371,11 +269,7 @@ fn flags_that_are_not_flags_are_refused_at_the_opening() {
 fn an_instant_past_the_last_is_refused() {
     let mut queue = used();
     let before = queue.session;
-    for late in [
-        crate::LATEST + Duration::from_nanos(1),
-        Duration::from_secs(1 << 40),
-        Duration::MAX,
-    ] {
+    for late in [crate::LATEST + Duration::from_nanos(1), Duration::from_secs(1 << 40), Duration::MAX] {
         assert_eq!(queue.push(late, &media(16, 960, &[])), Err(Refusal::Clock));
         assert_eq!(queue.poll(late), Err(Refusal::Clock));
         assert_eq!(queue.timeout(late), Err(Refusal::Clock));

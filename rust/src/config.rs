@@ -79,10 +79,7 @@ impl Default for Config {
 
 impl Config {
     pub(crate) fn words(&self) -> ffi::Config {
-        let rtx = self.rtx.unwrap_or(Rtx {
-            payload_type: 0,
-            ssrc: 0,
-        });
+        let rtx = self.rtx.unwrap_or(Rtx { payload_type: 0, ssrc: 0 });
         ffi::Config {
             delay: nanoseconds(self.delay),
             initial_nack_delay: nanoseconds(self.initial_nack_delay),

@@ -216,6 +216,7 @@ unsafe extern "C" {
         remembered: *mut u64,
         remembered_len: usize,
     ) -> Opened;
+    // Safe: these two take numbers alone, and refuse what they cannot use.
     pub safe fn bizhgemu_figures(session: Session) -> Figures;
     pub safe fn bizhgemu_lengths(max_entries: usize, max_gaps: usize) -> Lengths;
 }

@@ -99,30 +99,23 @@ impl Queue {
     pub fn waiting(&self) -> impl ExactSizeIterator<Item = Waiting<'_>> {
         let places = self.storage.entries.chunks_exact(4);
         let payloads = self.storage.payloads.chunks_exact(LONGEST_PAYLOAD);
-        places
-            .zip(payloads)
-            .take(self.session.entries)
-            .map(|(words, payload)| Waiting {
-                number: words[0],
-                timestamp: words[1],
-                received_at: words[2].checked_sub(1).map(Duration::from_nanos),
-                marker: words[3] % 2 == 1,
-                payload: &payload[..(words[3] / 2) as usize],
-            })
+        places.zip(payloads).take(self.session.entries).map(|(words, payload)| Waiting {
+            number: words[0],
+            timestamp: words[1],
+            received_at: words[2].checked_sub(1).map(Duration::from_nanos),
+            marker: words[3] % 2 == 1,
+            payload: &payload[..(words[3] / 2) as usize],
+        })
     }
 
     /// The missing numbers, ascending.
     pub fn gaps(&self) -> impl ExactSizeIterator<Item = Gap> {
-        self.storage
-            .gaps
-            .chunks_exact(4)
-            .take(self.session.gaps)
-            .map(|words| Gap {
-                number: words[0],
-                detected_at: Duration::from_nanos(words[1]),
-                nacks: words[2],
-                nacked_at: told(words[2], words[3]).map(Duration::from_nanos),
-            })
+        self.storage.gaps.chunks_exact(4).take(self.session.gaps).map(|words| Gap {
+            number: words[0],
+            detected_at: Duration::from_nanos(words[1]),
+            nacks: words[2],
+            nacked_at: told(words[2], words[3]).map(Duration::from_nanos),
+        })
     }
 
     /// The remembered numbers, oldest first.
@@ -131,9 +124,6 @@ impl Queue {
             .remembered
             .chunks_exact(2)
             .take(self.session.remembered)
-            .map(|words| Remembered {
-                number: words[0],
-                nacked_at: Duration::from_nanos(words[1]),
-            })
+            .map(|words| Remembered { number: words[0], nacked_at: Duration::from_nanos(words[1]) })
     }
 }

@@ -40,6 +40,8 @@
 //! the network sends. `docs/USING.md` in the repository tells how to choose the settings and what real senders do; the example
 //! `listen` is a complete host.
 
+#![deny(missing_docs, unsafe_op_in_unsafe_fn)]
+
 mod answers;
 mod config;
 mod ffi;

@@ -32,12 +32,7 @@ impl Storage {
     }
 
     pub(crate) fn open(&mut self, config: ffi::Config) -> ffi::Opened {
-        let Storage {
-            entries,
-            payloads,
-            gaps,
-            remembered,
-        } = self;
+        let Storage { entries, payloads, gaps, remembered } = self;
         // SAFETY: four live slices of the lengths passed, each of another allocation; the function asks nothing else.
         unsafe {
             ffi::bizhgemu_open(
@@ -121,21 +116,11 @@ impl Queue {
     ///
     /// Refused under 8; 2 to 7; 14; 12.
     pub fn push(&mut self, now: Duration, datagram: &[u8]) -> Result<Media, Refusal> {
-        let pushed = lend!(
-            bizhgemu_push,
-            self.session,
-            self.storage,
-            nanoseconds(now),
-            datagram.as_ptr(),
-            datagram.len()
-        );
+        let pushed =
+            lend!(bizhgemu_push, self.session, self.storage, nanoseconds(now), datagram.as_ptr(), datagram.len());
         Refusal::check(pushed.refusal)?;
         self.session = pushed.session;
-        Ok(if pushed.answer == 0 {
-            Media::Queued
-        } else {
-            Media::Dropped
-        })
+        Ok(if pushed.answer == 0 { Media::Queued } else { Media::Dropped })
     }
 
     /// Takes a repair: the RTX packet as it was sent (RFC 4588).
@@ -144,14 +129,8 @@ impl Queue {
     ///
     /// Refused under 8; 9; 2 to 7; 10; 11; 14; 13.
     pub fn push_rtx(&mut self, now: Duration, datagram: &[u8]) -> Result<Repair, Refusal> {
-        let pushed = lend!(
-            bizhgemu_push_rtx,
-            self.session,
-            self.storage,
-            nanoseconds(now),
-            datagram.as_ptr(),
-            datagram.len()
-        );
+        let pushed =
+            lend!(bizhgemu_push_rtx, self.session, self.storage, nanoseconds(now), datagram.as_ptr(), datagram.len());
         Refusal::check(pushed.refusal)?;
         self.session = pushed.session;
         Ok(match pushed.answer {
@@ -218,12 +197,7 @@ impl Queue {
     ///
     /// Refused under 8.
     pub fn timeout_receive(&mut self, now: Duration) -> Result<Option<Duration>, Refusal> {
-        let answer = lend!(
-            bizhgemu_timeout_receive,
-            self.session,
-            self.storage,
-            nanoseconds(now)
-        );
+        let answer = lend!(bizhgemu_timeout_receive, self.session, self.storage, nanoseconds(now));
         timeout(answer)
     }
 
@@ -233,12 +207,7 @@ impl Queue {
     ///
     /// Refused under 8.
     pub fn timeout_nack(&mut self, now: Duration) -> Result<Option<Duration>, Refusal> {
-        let answer = lend!(
-            bizhgemu_timeout_nack,
-            self.session,
-            self.storage,
-            nanoseconds(now)
-        );
+        let answer = lend!(bizhgemu_timeout_nack, self.session, self.storage, nanoseconds(now));
         timeout(answer)
     }
 
@@ -279,11 +248,7 @@ impl Queue {
     ///
     /// Refused under 16 alone.
     pub fn highest_sequence_number_received(&mut self) -> Result<Option<u64>, Refusal> {
-        let highest = lend!(
-            bizhgemu_highest_sequence_number_received,
-            self.session,
-            self.storage
-        );
+        let highest = lend!(bizhgemu_highest_sequence_number_received, self.session, self.storage);
         Refusal::check(highest.refusal)?;
         Ok(told(highest.has_number, highest.number))
     }
@@ -309,9 +274,7 @@ impl Queue {
 
 impl fmt::Debug for Queue {
     fn fmt(&self, f: &mut fmt::Formatter<'_>) -> fmt::Result {
-        f.debug_struct("Queue")
-            .field("session", &self.session)
-            .finish_non_exhaustive()
+        f.debug_struct("Queue").field("session", &self.session).finish_non_exhaustive()
     }
 }
 

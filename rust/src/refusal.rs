@@ -87,11 +87,7 @@ const TABLE: [(Refusal, &str, &str); 16] = [
         "a repair came for a session without RTX",
         "open the session with `Config::rtx`, or do not hand repairs to it",
     ),
-    (
-        Refusal::NoMedia,
-        "a repair came before any media packet",
-        "drop it; at the start of a stream this is harmless",
-    ),
+    (Refusal::NoMedia, "a repair came before any media packet", "drop it; at the start of a stream this is harmless"),
     (
         Refusal::NoOriginalNumber,
         "a repair is too short to name the number it repairs",
@@ -107,11 +103,7 @@ const TABLE: [(Refusal, &str, &str); 16] = [
         "a repair came while twice `max_entries` packets wait",
         "poll until nothing is handed out; raise `max_entries`",
     ),
-    (
-        Refusal::Count,
-        "a number, timestamp or counter would pass 2^52 - 1",
-        "open a new session",
-    ),
+    (Refusal::Count, "a number, timestamp or counter would pass 2^52 - 1", "open a new session"),
     (
         Refusal::Output,
         "the lent output is too short",
@@ -169,13 +161,7 @@ impl Refusal {
 
 impl fmt::Display for Refusal {
     fn fmt(&self, f: &mut fmt::Formatter<'_>) -> fmt::Result {
-        write!(
-            f,
-            "refused under {}: {}; {}",
-            self.number(),
-            self.meaning(),
-            self.remedy()
-        )
+        write!(f, "refused under {}: {}; {}", self.number(), self.meaning(), self.remedy())
     }
 }
 
@@ -189,10 +175,7 @@ mod tests {
     fn numbers_and_table_agree() {
         for (place, refusal) in Refusal::all().enumerate() {
             assert_eq!(usize::from(refusal.number()), place + 1);
-            assert_eq!(
-                Refusal::from_number(u64::from(refusal.number())),
-                Some(refusal)
-            );
+            assert_eq!(Refusal::from_number(u64::from(refusal.number())), Some(refusal));
         }
         assert_eq!(Refusal::from_number(0), None);
         assert_eq!(Refusal::from_number(17), None);

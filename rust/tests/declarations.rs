@@ -60,9 +60,7 @@ fn rust_type(kind: &str) -> String {
 
 fn camel_case(name: &str) -> String {
     let words = name.split('_');
-    words
-        .map(|word| word[..1].to_uppercase() + &word[1..])
-        .collect()
+    words.map(|word| word[..1].to_uppercase() + &word[1..]).collect()
 }
 
 #[test]

@@ -17,12 +17,7 @@ fn compare(calls: &str, answers: &str) {
     for (place, line) in lines.split(|byte| *byte == b'\n').enumerate() {
         for answer in host.answer(line) {
             let line = String::from_utf8_lossy(line);
-            assert_eq!(
-                Some(answer.as_str()),
-                expected.next(),
-                "line {}: {line}",
-                place + 1
-            );
+            assert_eq!(Some(answer.as_str()), expected.next(), "line {}: {line}", place + 1);
         }
     }
     assert_eq!(expected.next(), None);

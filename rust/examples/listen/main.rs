@@ -56,10 +56,7 @@ fn listen(options: &Options) -> io::Result<()> {
         match socket.recv(&mut datagram) {
             Ok(length) => host.take(clock.now(), &datagram[..length]),
             Err(error)
-                if matches!(
-                    error.kind(),
-                    ErrorKind::WouldBlock | ErrorKind::TimedOut | ErrorKind::Interrupted
-                ) => {}
+                if matches!(error.kind(), ErrorKind::WouldBlock | ErrorKind::TimedOut | ErrorKind::Interrupted) => {}
             Err(error) => return Err(error),
         }
     }
@@ -77,11 +74,7 @@ struct Host<'a> {
 }
 
 impl<'a> Host<'a> {
-    fn new(
-        options: &'a Options,
-        output: Box<dyn Write>,
-        socket: &'a UdpSocket,
-    ) -> io::Result<Host<'a>> {
+    fn new(options: &'a Options, output: Box<dyn Write>, socket: &'a UdpSocket) -> io::Result<Host<'a>> {
         let mut host = Host {
             config: options.config,
             queue: None,
@@ -117,11 +110,7 @@ impl<'a> Host<'a> {
             self.report.before_session += 1;
             return;
         };
-        let repair = datagram.len() > 1
-            && self
-                .config
-                .rtx
-                .is_some_and(|rtx| rtx.payload_type == datagram[1] & 0x7f);
+        let repair = datagram.len() > 1 && self.config.rtx.is_some_and(|rtx| rtx.payload_type == datagram[1] & 0x7f);
         if repair {
             match queue.push_rtx(now, datagram) {
                 Ok(Repair::Recovered) => self.report.recovered += 1,
@@ -156,10 +145,7 @@ impl<'a> Host<'a> {
 
     /// How long there is nothing to do unless a datagram comes.
     fn timeout(&mut self, now: Duration) -> Duration {
-        let timeout = self
-            .queue
-            .as_mut()
-            .and_then(|queue| queue.timeout(now).ok().flatten());
+        let timeout = self.queue.as_mut().and_then(|queue| queue.timeout(now).ok().flatten());
         timeout.unwrap_or(Duration::MAX)
     }
 }

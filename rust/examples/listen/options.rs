@@ -31,9 +31,7 @@ pub enum Nacks {
 
 impl Nacks {
     pub fn send(&self, socket: &UdpSocket, numbers: &[u16]) -> io::Result<()> {
-        let line = numbers.iter().fold("NACK".to_string(), |line, number| {
-            format!("{line} {number}")
-        });
+        let line = numbers.iter().fold("NACK".to_string(), |line, number| format!("{line} {number}"));
         match self {
             Nacks::Untold => {}
             Nacks::Printed => eprintln!("{line}"),
@@ -99,10 +97,7 @@ impl Options {
     }
 
     fn rtx(&mut self) -> &mut Rtx {
-        self.config.rtx.get_or_insert(Rtx {
-            payload_type: 0,
-            ssrc: 0,
-        })
+        self.config.rtx.get_or_insert(Rtx { payload_type: 0, ssrc: 0 })
     }
 
     pub fn output(&self) -> io::Result<Box<dyn Write>> {

@@ -91,14 +91,8 @@ impl Report {
     }
 
     fn refusals(&self) -> String {
-        let counts = self
-            .refused
-            .iter()
-            .enumerate()
-            .filter(|(_, count)| **count > 0);
-        counts.fold(String::new(), |line, (number, count)| {
-            format!("{line} refused {number}: {count}")
-        })
+        let counts = self.refused.iter().enumerate().filter(|(_, count)| **count > 0);
+        counts.fold(String::new(), |line, (number, count)| format!("{line} refused {number}: {count}"))
     }
 
     fn remember(&mut self, figures: &Figures, queue: &Queue) {
@@ -131,26 +125,21 @@ impl Report {
             && self.rose(Refusal::PayloadType)
             && missing
         {
-            signs.push(format!("refused 6 rises beside loss: payload type {pt} is in the stream too, and its numbers count as lost"));
+            signs.push(format!(
+                "refused 6 rises beside loss: payload type {pt} is in the stream too, and its numbers count as lost"
+            ));
         }
         if self.rose(Refusal::PayloadTooLarge) {
-            signs.push(
-                "refused 5 rises: payloads over 320 bytes; set the sender to 20 ms packets".into(),
-            );
+            signs.push("refused 5 rises: payloads over 320 bytes; set the sender to 20 ms packets".into());
         }
         if let Some(ssrc) = self.other_ssrc
             && self.rose(Refusal::Ssrc)
             && figures.packets_received == self.before.received
         {
-            signs.push(format!(
-                "nothing but refused 7: the sender now is {ssrc:#010x}; open a new session with it"
-            ));
+            signs.push(format!("nothing but refused 7: the sender now is {ssrc:#010x}; open a new session with it"));
         }
         if self.dropped_in_a_row >= RESTART {
-            signs.push(format!(
-                "{} dropped in a row: the sender restarted; open a new session",
-                self.dropped_in_a_row
-            ));
+            signs.push(format!("{} dropped in a row: the sender restarted; open a new session", self.dropped_in_a_row));
         }
         signs.extend(self.depth_sign(figures, config));
         signs.extend(self.nack_sign(figures, queue));
@@ -177,8 +166,7 @@ impl Report {
 
     fn nack_sign(&self, figures: &Figures, queue: &Queue) -> Option<String> {
         let nacked = self.nacked - self.before.nacked;
-        let settled =
-            self.recovered - self.before.recovered + figures.packets_lost - self.before.lost;
+        let settled = self.recovered - self.before.recovered + figures.packets_lost - self.before.lost;
         if nacked > 20 + 10 * settled {
             Some(format!(
                 "{nacked} numbers NACKed, {settled} recovered or lost: NACKs are repeated faster than repairs come"

@@ -49,11 +49,7 @@ pub fn read(line: &[u8]) -> Option<Call> {
 fn number(field: &str) -> Option<u64> {
     let digits = field.bytes().all(|byte| byte.is_ascii_digit());
     let leading = field.len() > 1 && field.starts_with('0');
-    if digits && !leading {
-        field.parse().ok()
-    } else {
-        None
-    }
+    if digits && !leading { field.parse().ok() } else { None }
 }
 
 /// Pairs of lower-case hexadecimal digits, or `-` for no bytes.
@@ -61,14 +57,10 @@ fn hex(field: &str) -> Option<Vec<u8>> {
     if field == "-" {
         return Some(Vec::new());
     }
-    let digits = field
-        .bytes()
-        .all(|byte| matches!(byte, b'0'..=b'9' | b'a'..=b'f'));
+    let digits = field.bytes().all(|byte| matches!(byte, b'0'..=b'9' | b'a'..=b'f'));
     if !digits || field.is_empty() || field.len() % 2 == 1 {
         return None;
     }
     let pairs = (0..field.len()).step_by(2);
-    pairs
-        .map(|at| u8::from_str_radix(&field[at..at + 2], 16).ok())
-        .collect()
+    pairs.map(|at| u8::from_str_radix(&field[at..at + 2], 16).ok()).collect()
 }

@@ -39,22 +39,10 @@ impl Host {
 /// None where a field does not fit the type it has in `Config`, which is refused under 1 as well (docs/TRACE.md). The payload type
 /// of repairs counts where there are none, too.
 fn config(fields: [u64; 13]) -> Option<Config> {
-    let [
-        mode,
-        clock_rate,
-        max_entries,
-        max_gaps,
-        delay,
-        initial,
-        resend,
-        max,
-        ..,
-    ] = fields;
+    let [mode, clock_rate, max_entries, max_gaps, delay, initial, resend, max, ..] = fields;
     let [.., payload_type, ssrc, rtx, rtx_pt, rtx_ssrc] = fields;
-    let repairs = Rtx {
-        payload_type: u8::try_from(rtx_pt).ok().filter(|pt| *pt <= 127)?,
-        ssrc: rtx_ssrc.try_into().ok()?,
-    };
+    let repairs =
+        Rtx { payload_type: u8::try_from(rtx_pt).ok().filter(|pt| *pt <= 127)?, ssrc: rtx_ssrc.try_into().ok()? };
     Some(Config {
         mode: match mode {
             0 => Mode::Passthrough,
@@ -122,15 +110,11 @@ fn nack(numbers: &[u16]) -> String {
     if numbers.is_empty() {
         return "nothing".into();
     }
-    numbers.iter().fold("nack".to_string(), |line, number| {
-        format!("{line} {number}")
-    })
+    numbers.iter().fold("nack".to_string(), |line, number| format!("{line} {number}"))
 }
 
 fn timeout(timeout: Option<Duration>) -> String {
-    timeout.map_or("none".into(), |timeout| {
-        format!("after {}", timeout.as_nanos())
-    })
+    timeout.map_or("none".into(), |timeout| format!("after {}", timeout.as_nanos()))
 }
 
 fn rtx_stats(queue: &mut Queue) -> Result<String, Refusal> {
@@ -183,25 +167,13 @@ fn lists(queue: &Queue) -> impl Iterator<Item = String> {
     let entries = queue.waiting().map(|entry| {
         let arrival = or_none(entry.received_at.map(|instant| instant.as_nanos()));
         let marker = u8::from(entry.marker);
-        format!(
-            "entry {} {} {arrival} {marker} {}",
-            entry.number,
-            entry.timestamp,
-            hex(entry.payload)
-        )
+        format!("entry {} {} {arrival} {marker} {}", entry.number, entry.timestamp, hex(entry.payload))
     });
     let gaps = queue.gaps().map(|gap| {
         let nacked = or_none(gap.nacked_at.map(|instant| instant.as_nanos()));
-        format!(
-            "gap {} {} {nacked} {}",
-            gap.number,
-            gap.detected_at.as_nanos(),
-            gap.nacks
-        )
+        format!("gap {} {} {nacked} {}", gap.number, gap.detected_at.as_nanos(), gap.nacks)
     });
-    let remembered = queue
-        .remembered()
-        .map(|lost| format!("remembered {} {}", lost.number, lost.nacked_at.as_nanos()));
+    let remembered = queue.remembered().map(|lost| format!("remembered {} {}", lost.number, lost.nacked_at.as_nanos()));
     entries.chain(gaps).chain(remembered)
 }
 
