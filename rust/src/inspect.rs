@@ -104,7 +104,7 @@ impl Queue {
             timestamp: words[1],
             received_at: words[2].checked_sub(1).map(Duration::from_nanos),
             marker: words[3] % 2 == 1,
-            payload: &payload[..(words[3] / 2) as usize],
+            payload: &payload[..payload.len().min((words[3] / 2) as usize)],
         })
     }
 
