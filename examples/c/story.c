@@ -1,0 +1,139 @@
+/* A stream with a loss, a NACK, a repair and a strange datagram, through the queue. `make -C examples/c` builds it, runs it and compares
+ * what it prints with story.expected. */
+
+#include "bizhgemu.h"
+
+#include <stdio.h>
+#include <string.h>
+
+enum { D = 16, G = 999, PT = 0, RTX_PT = 97, PAYLOAD = 4 };
+static const uint32_t SSRC = 0x1234, RTX_SSRC = 0x5678;
+static const uint64_t MS = 1000000;
+
+static uint64_t entries[BIZHGEMU_ENTRIES(D)];
+static uint8_t payloads[BIZHGEMU_PAYLOADS(D)];
+static uint64_t gaps[BIZHGEMU_GAPS(G)];
+static uint64_t remembered[BIZHGEMU_REMEMBERED];
+
+static void put(uint8_t *to, uint32_t value, size_t bytes)
+{
+	while (bytes-- > 0) {
+		to[bytes] = (uint8_t)value;
+		value >>= 8;
+	}
+}
+
+/* An RTP header of 12 bytes (RFC 3550). */
+static void header(uint8_t *to, uint8_t pt, uint16_t number, uint32_t timestamp, uint32_t ssrc)
+{
+	to[0] = 0x80;
+	to[1] = pt;
+	put(to + 2, number, 2);
+	put(to + 4, timestamp, 4);
+	put(to + 8, ssrc, 4);
+}
+
+/* 20 ms of speech under a number; the first is 65534. */
+static uint32_t timestamp_of(uint16_t number)
+{
+	return 160u * (uint16_t)(number - 65534);
+}
+
+static void push(struct bizhgemu_queue *q, uint64_t ms, uint16_t number, uint32_t ssrc)
+{
+	static const char *const words[] = {"queued", "dropped"};
+	uint8_t datagram[12 + PAYLOAD];
+	header(datagram, PT, number, timestamp_of(number), ssrc);
+	memset(datagram + 12, number & 0xff, PAYLOAD);
+	const struct bizhgemu_pushed r = bizhgemu_queue_push(q, ms * MS, datagram, sizeof datagram);
+	if (r.refusal)
+		printf("%3d ms  media %5u: refused under %d\n", (int)ms, number, (int)r.refusal);
+	else
+		printf("%3d ms  media %5u: %s\n", (int)ms, number, words[r.answer]);
+}
+
+static void push_rtx(struct bizhgemu_queue *q, uint64_t ms, uint16_t number)
+{
+	static const char *const words[] = {"recovered", "redundant", "too late"};
+	uint8_t datagram[12 + 2 + PAYLOAD];
+	header(datagram, RTX_PT, 7, timestamp_of(number), RTX_SSRC);
+	put(datagram + 12, number, 2);
+	memset(datagram + 14, number & 0xff, PAYLOAD);
+	const struct bizhgemu_pushed r = bizhgemu_queue_push_rtx(q, ms * MS, datagram, sizeof datagram);
+	if (r.refusal)
+		printf("%3d ms  repair %5u: refused under %d\n", (int)ms, number, (int)r.refusal);
+	else
+		printf("%3d ms  repair %5u: %s\n", (int)ms, number, words[r.answer]);
+}
+
+/* What a host does when it wakes: NACKs, then packets until none is due, then sleep. Whether a call was refused. */
+static int wake(struct bizhgemu_queue *q, uint64_t ms)
+{
+	uint16_t numbers[G];
+	const struct bizhgemu_polled_nack nack = bizhgemu_queue_poll_nack(q, ms * MS, numbers, G);
+	for (size_t i = 0; i < nack.count; i++)
+		printf("%3d ms  NACK %u\n", (int)ms, numbers[i]);
+
+	uint8_t payload[BIZHGEMU_LONGEST_PAYLOAD];
+	struct bizhgemu_polled polled = bizhgemu_queue_poll(q, ms * MS, payload, sizeof payload);
+	while (polled.has_packet) {
+		const struct bizhgemu_packet *packet = &polled.packet;
+		printf("%3d ms  out %5u, timestamp %u, %zu bytes of %02x%s\n", (int)ms, packet->sequence_number, packet->timestamp,
+			packet->size, payload[0], packet->has_received_at ? "" : ", repaired");
+		polled = bizhgemu_queue_poll(q, ms * MS, payload, sizeof payload);
+	}
+
+	const struct bizhgemu_timeout sleep = bizhgemu_queue_timeout(q, ms * MS);
+	if (sleep.has_timeout)
+		printf("%3d ms  sleep %.3f ms\n", (int)ms, (double)sleep.timeout / 1e6);
+	else
+		printf("%3d ms  nothing to wait for\n", (int)ms);
+	return nack.refusal || polled.refusal || sleep.refusal;
+}
+
+static int figures(const struct bizhgemu_queue *q)
+{
+	const struct bizhgemu_figures f = bizhgemu_queue_figures(q);
+	const struct bizhgemu_rtx_stats r = bizhgemu_queue_rtx_stats(q);
+	printf("received %d, dropped %d, lost %d, loss %.4f, jitter %.3f ms\n", (int)f.packets_received, (int)f.packets_dropped,
+		(int)f.packets_lost, (double)f.loss, (double)f.jitter / 1e6);
+	printf("repairs in time %d, round trip %.3f ms\n", (int)r.packets_received_in_time, (double)r.rtt / 1e6);
+	return f.refusal || r.refusal;
+}
+
+int main(void)
+{
+	struct bizhgemu_queue q = {
+		.entries = entries, .entries_len = BIZHGEMU_ENTRIES(D),
+		.payloads = payloads, .payloads_len = BIZHGEMU_PAYLOADS(D),
+		.gaps = gaps, .gaps_len = BIZHGEMU_GAPS(G),
+		.remembered = remembered, .remembered_len = BIZHGEMU_REMEMBERED,
+	};
+	const struct bizhgemu_config config = {
+		.mode = BIZHGEMU_SORTED_QUEUE, .delay = 60 * MS, .initial_nack_delay = 5 * MS, .default_nack_resend_delay = 20 * MS,
+		.max_entries = D, .max_gaps = G, .clock_rate = 8000, .max_nack_attempts = 3,
+		.pt = PT, .ssrc = SSRC, .has_rtx = 1, .rtx_pt = RTX_PT, .rtx_ssrc = RTX_SSRC,
+	};
+	const uint64_t refusal = bizhgemu_queue_open(&q, config).refusal;
+	if (refusal) {
+		fprintf(stderr, "opening refused under %d\n", (int)refusal);
+		return 1;
+	}
+
+	int failed = 0;
+	push(&q, 0, 65534, SSRC);
+	push(&q, 20, 65535, SSRC);
+	push(&q, 60, 1, SSRC); /* 0 is missing */
+	failed |= wake(&q, 60);
+	failed |= wake(&q, 65);
+	push_rtx(&q, 75, 0);
+	push(&q, 80, 2, SSRC ^ 1); /* one bit of the sender turned over */
+	push(&q, 80, 2, SSRC);
+	push(&q, 81, 2, SSRC); /* twice */
+	failed |= wake(&q, 81);
+	failed |= wake(&q, 100);
+	failed |= wake(&q, 120);
+	failed |= wake(&q, 140);
+	failed |= figures(&q);
+	return failed;
+}

@@ -1,0 +1,370 @@
+/* The receive queue of one RTP stream: datagrams and instants in; packets in order, NACK lists and timeouts out.
+ *
+ * Link target/staticlib/libffi.a, which `rt staticlib ffi` makes; it needs nothing else. C99 or later, 64-bit.
+ * docs/USING.md tells how to choose settings and drive the queue. No function allocates, blocks, reads a clock or keeps
+ * state of its own: a session is a struct that goes in by value and comes back by value, its storage is four arrays that
+ * the caller owns. Different sessions may be used from different threads at once.
+ *
+ * The caller owes what C cannot check: each pointer names live memory of the length beside it, and no two of them overlap.
+ * Every VALUE is checked, damaged sessions and storage included. A refused call (`refusal` not 0) changes nothing: the
+ * session comes back as it was given, word for word, and no array is written to. After an accepted call every unused
+ * place of the storage holds zeros.
+ *
+ * Instants are nanoseconds since the box started, from a clock that never goes back, at most BIZHGEMU_LATEST. Durations
+ * are nanoseconds. Flags are words, 0 or 1; a value beside a flag that is 0 is 0, and so is every answer of a refused call.
+ *
+ * Most programs want `struct bizhgemu_queue` and the functions named bizhgemu_queue_*, at the end of this file. */
+
+#ifndef BIZHGEMU_H
+#define BIZHGEMU_H
+
+#include <stddef.h>
+#include <stdint.h>
+
+#ifdef __cplusplus
+extern "C" {
+#endif
+
+/* The latest instant: 2^52 - 1, a little over 52 days. */
+#define BIZHGEMU_LATEST ((UINT64_C(1) << 52) - 1)
+
+/* The longest payload, in bytes: what `poll` must be lent. */
+#define BIZHGEMU_LONGEST_PAYLOAD 320
+
+/* Lengths of the four arrays, in elements, for depth D and most gaps G. Lengths are exact: another one is refused under 16. */
+#define BIZHGEMU_ENTRIES(D) (8 * (D))
+#define BIZHGEMU_PAYLOADS(D) (640 * (D))
+#define BIZHGEMU_GAPS(G) (4 * (G))
+#define BIZHGEMU_REMEMBERED 2048
+
+/* Why a call was turned back. Checks run in the order of docs/USING.md, not of these numbers. */
+enum bizhgemu_refusal {
+	BIZHGEMU_ACCEPTED = 0,
+	BIZHGEMU_SETTINGS = 1,            /* a setting is out of its range */
+	BIZHGEMU_TRUNCATED = 2,           /* the datagram ends within its header */
+	BIZHGEMU_VERSION = 3,             /* the datagram is not RTP version 2 */
+	BIZHGEMU_PADDING = 4,             /* its count of padding bytes cannot be right */
+	BIZHGEMU_PAYLOAD_TOO_LARGE = 5,   /* payload over 320 bytes, of a repair over 322 */
+	BIZHGEMU_PAYLOAD_TYPE = 6,        /* payload type not the session's */
+	BIZHGEMU_SSRC = 7,                /* SSRC not the session's */
+	BIZHGEMU_CLOCK = 8,               /* instant before the latest accepted one, or above BIZHGEMU_LATEST */
+	BIZHGEMU_NO_RTX = 9,              /* repair for a session without RTX */
+	BIZHGEMU_NO_MEDIA = 10,           /* repair before any media packet */
+	BIZHGEMU_NO_ORIGINAL_NUMBER = 11, /* repair of under 2 bytes */
+	BIZHGEMU_GAPS_FULL = 12,          /* more gaps than max_gaps would be open */
+	BIZHGEMU_ENTRIES_FULL = 13,       /* repair with 2 * max_entries packets waiting */
+	BIZHGEMU_COUNT = 14,              /* a number, timestamp or counter would pass 2^52 - 1, or a NACK count 2^32 - 1 */
+	BIZHGEMU_OUTPUT = 15,             /* lent output under 320 bytes, or under max_gaps numbers */
+	BIZHGEMU_SESSION = 16             /* session or storage damaged, or not of these settings */
+};
+
+/* `mode` of the settings. */
+enum bizhgemu_mode {
+	BIZHGEMU_PASSTHROUGH = 0, /* packets are handed out at once */
+	BIZHGEMU_SORTED_QUEUE = 1 /* in order, kept for `delay` */
+};
+
+/* `answer` to a media packet, and to a repair. */
+enum bizhgemu_media { BIZHGEMU_QUEUED = 0, BIZHGEMU_DROPPED = 1 };
+enum bizhgemu_repair { BIZHGEMU_RECOVERED = 0, BIZHGEMU_REDUNDANT = 1, BIZHGEMU_TOO_LATE = 2 };
+
+/* The settings. Every field is checked at the opening, used by the mode or not. */
+struct bizhgemu_config {
+	/* Durations in nanoseconds, each at most 60,000,000,000. */
+	uint64_t delay;                     /* how long a sorted queue keeps a packet */
+	uint64_t initial_nack_delay;        /* from the detection of a gap to its first NACK */
+	uint64_t default_nack_resend_delay; /* from one NACK to the next while no round trip was measured */
+	uint64_t nack_window;               /* has no effect, as in the original queue */
+	/* Sizes: they set the lengths of the storage. */
+	size_t max_entries;                 /* depth D: packets kept, 1 to 1,024 */
+	size_t max_gaps;                    /* G: most missing numbers at a time, 999 to 4,096 */
+	uint32_t clock_rate;                /* of the RTP timestamps, 1 to 1,000,000 Hz */
+	uint32_t max_nack_attempts;         /* NACKs after which passthrough gives a number up, 1 to 255 */
+	uint32_t mode;                      /* enum bizhgemu_mode */
+	uint32_t has_rtx;                   /* whether the sender answers NACKs by repairs (RFC 4588), 0 or 1 */
+	/* Whose packets the session takes: SSRC, and payload type from 0 to 127, of media and of repairs. */
+	uint32_t ssrc;
+	uint32_t rtx_ssrc;
+	uint8_t pt;
+	uint8_t rtx_pt;
+};
+
+/* A session: everything but the storage. Readable by anyone, changed by the calls alone. */
+struct bizhgemu_session {
+	struct bizhgemu_config config;
+	uint64_t clock;             /* the latest accepted instant */
+	/* The media packet with the highest number: when it came, its extended timestamp and number. */
+	uint64_t has_last;
+	uint64_t last_instant;
+	uint64_t last_timestamp;
+	uint64_t last_number;
+	/* The extended number last handed out or pushed out. */
+	uint64_t has_returned;
+	uint64_t returned;
+	/* The round trip from a NACK to its repair, smoothed, and its variation. */
+	uint64_t has_rtt;
+	uint64_t srtt;
+	uint64_t variation;
+	/* Repairs: how many came in time, too late, of numbers not missing; payload bytes of those in time. */
+	uint64_t rtx_in_time;
+	uint64_t rtx_too_late;
+	uint64_t rtx_redundant;
+	uint64_t rtx_bytes;
+	/* Media: packets dropped or pushed out, packets queued, their payload bytes, numbers given up. */
+	uint64_t dropped;
+	uint64_t received;
+	uint64_t bytes;
+	uint64_t lost;
+	/* The running jitter, in ticks of the clock rate beside it. */
+	double jitter_clock_rate;
+	double jitter;
+	/* How many packets wait, numbers are missing, lost numbers are remembered. */
+	size_t entries;
+	size_t gaps;
+	size_t remembered;
+	/* The running loss, 0 to 1. */
+	float loss;
+};
+
+struct bizhgemu_opened {
+	uint64_t refusal;
+	struct bizhgemu_session session;
+};
+
+/* What became of a datagram: `answer` is of enum bizhgemu_media or enum bizhgemu_repair. */
+struct bizhgemu_pushed {
+	uint64_t refusal;
+	uint64_t answer;
+	struct bizhgemu_session session;
+};
+
+/* A packet that is handed out; its payload is in the lent output. A repair has its original number, and payload type and
+ * SSRC of media. */
+struct bizhgemu_packet {
+	uint64_t has_received_at; /* 0 for a repair */
+	uint64_t received_at;     /* when it came */
+	uint64_t delay;           /* for how long the queue keeps packets; 0 in passthrough */
+	size_t size;              /* of the payload, 0 to 320 bytes */
+	uint32_t timestamp;
+	uint32_t ssrc;
+	uint16_t sequence_number;
+	uint8_t pt;
+	uint8_t marker;
+};
+
+struct bizhgemu_polled {
+	uint64_t refusal;
+	uint64_t has_packet;
+	struct bizhgemu_packet packet;
+	struct bizhgemu_session session;
+};
+
+/* `count` numbers are in the lent output; 0: nothing is due. */
+struct bizhgemu_polled_nack {
+	uint64_t refusal;
+	size_t count;
+	struct bizhgemu_session session;
+};
+
+/* The time from `now` until there is something to do; no timeout: nothing to wait for. */
+struct bizhgemu_timeout {
+	uint64_t refusal;
+	uint64_t has_timeout;
+	uint64_t timeout;
+};
+
+/* The figures of repairs; none in a session without RTX. */
+struct bizhgemu_rtx_stats {
+	uint64_t refusal;
+	uint64_t has_stats;
+	uint64_t packets_received_in_time;
+	uint64_t packets_received_too_late;
+	uint64_t packets_received_redundant;
+	uint64_t bytes_received;
+	uint64_t has_rtt;
+	uint64_t rtt; /* nanoseconds */
+};
+
+/* An extended number. */
+struct bizhgemu_highest {
+	uint64_t refusal;
+	uint64_t has_number;
+	uint64_t number;
+};
+
+/* The figures a box shows. */
+struct bizhgemu_figures {
+	uint64_t refusal;
+	uint64_t packets_received;
+	uint64_t packets_dropped;
+	uint64_t packets_lost;
+	uint64_t bytes_received;
+	uint64_t jitter; /* nanoseconds */
+	float loss;      /* 0 to 1; a repaired packet counts as lost */
+};
+
+/* Lengths of the four arrays, in elements. */
+struct bizhgemu_lengths {
+	uint64_t refusal;
+	size_t entries;
+	size_t payloads;
+	size_t gaps;
+	size_t remembered;
+};
+
+#if defined(__cplusplus)
+#define BIZHGEMU_SIZE(NAME, BYTES) static_assert(sizeof(struct NAME) == (BYTES), "layout of " #NAME)
+#elif defined(__STDC_VERSION__) && __STDC_VERSION__ >= 201112L
+#define BIZHGEMU_SIZE(NAME, BYTES) _Static_assert(sizeof(struct NAME) == (BYTES), "layout of " #NAME)
+#else
+#define BIZHGEMU_SIZE(NAME, BYTES) typedef char NAME##_has_its_size[sizeof(struct NAME) == (BYTES) ? 1 : -1]
+#endif
+BIZHGEMU_SIZE(bizhgemu_config, 80);
+BIZHGEMU_SIZE(bizhgemu_session, 272);
+BIZHGEMU_SIZE(bizhgemu_opened, 280);
+BIZHGEMU_SIZE(bizhgemu_pushed, 288);
+BIZHGEMU_SIZE(bizhgemu_packet, 48);
+BIZHGEMU_SIZE(bizhgemu_polled, 336);
+BIZHGEMU_SIZE(bizhgemu_polled_nack, 288);
+BIZHGEMU_SIZE(bizhgemu_timeout, 24);
+BIZHGEMU_SIZE(bizhgemu_rtx_stats, 64);
+BIZHGEMU_SIZE(bizhgemu_highest, 24);
+BIZHGEMU_SIZE(bizhgemu_figures, 56);
+BIZHGEMU_SIZE(bizhgemu_lengths, 40);
+#undef BIZHGEMU_SIZE
+
+/* The parameters that stand for the storage: a pointer and a count of elements for each array. */
+#define BIZHGEMU_STORAGE \
+	uint64_t *entries, size_t entries_len, uint8_t *payloads, size_t payloads_len, \
+	uint64_t *gaps, size_t gaps_len, uint64_t *remembered, size_t remembered_len
+
+/* How long the four arrays must be. Refused under 1 where max_entries or max_gaps is out of its range. */
+struct bizhgemu_lengths bizhgemu_lengths(size_t max_entries, size_t max_gaps);
+
+/* Opens a session and clears its storage. Refused under 1 for a setting, then under 16 for a length. */
+struct bizhgemu_opened bizhgemu_open(struct bizhgemu_config config, BIZHGEMU_STORAGE);
+
+/* Takes a media datagram, header and all. Refused under 16, 8, 2 to 7, 14, 12. */
+struct bizhgemu_pushed bizhgemu_push(struct bizhgemu_session session, BIZHGEMU_STORAGE,
+	uint64_t now, const uint8_t *datagram, size_t datagram_len);
+
+/* Takes a repair: the RTX packet as it was sent (RFC 4588). Refused under 16, 8, 9, 2 to 7, 10, 11, 14, 13. */
+struct bizhgemu_pushed bizhgemu_push_rtx(struct bizhgemu_session session, BIZHGEMU_STORAGE,
+	uint64_t now, const uint8_t *datagram, size_t datagram_len);
+
+/* Hands out the next packet that is due: its payload is written to `out`, of at least 320 bytes; what lies behind it there
+ * is kept. Call it until it hands out nothing. Refused under 16, 15, 8, 14. */
+struct bizhgemu_polled bizhgemu_poll(struct bizhgemu_session session, BIZHGEMU_STORAGE,
+	uint64_t now, uint8_t *out, size_t out_len);
+
+/* Writes the numbers to ask the sender for again to `out`, of at least max_gaps numbers, ascending by extended number.
+ * Refused under 16, 15, 8, 14. */
+struct bizhgemu_polled_nack bizhgemu_poll_nack(struct bizhgemu_session session, BIZHGEMU_STORAGE,
+	uint64_t now, uint16_t *out, size_t out_len);
+
+/* The time until `poll` hands out the next packet. Does not advance the clock. Refused under 16, 8. */
+struct bizhgemu_timeout bizhgemu_timeout_receive(struct bizhgemu_session session, BIZHGEMU_STORAGE, uint64_t now);
+
+/* The time until `poll_nack` has a number. Does not advance the clock. Refused under 16, 8. */
+struct bizhgemu_timeout bizhgemu_timeout_nack(struct bizhgemu_session session, BIZHGEMU_STORAGE, uint64_t now);
+
+/* The figures of repairs. Refused under 16. */
+struct bizhgemu_rtx_stats bizhgemu_rtx_stats(struct bizhgemu_session session, BIZHGEMU_STORAGE);
+
+/* The extended number of the media packet with the highest number; none before the first. Refused under 16. */
+struct bizhgemu_highest bizhgemu_highest_sequence_number_received(struct bizhgemu_session session, BIZHGEMU_STORAGE);
+
+/* The figures a box shows. Refused under 16 where the session itself is not sound; the storage is not looked at. */
+struct bizhgemu_figures bizhgemu_figures(struct bizhgemu_session session);
+
+/* A session with its storage. Fill in the four pointers with arrays of the lengths that BIZHGEMU_ENTRIES and so on give,
+ * then open it. */
+struct bizhgemu_queue {
+	struct bizhgemu_session session;
+	uint64_t *entries;
+	size_t entries_len;
+	uint8_t *payloads;
+	size_t payloads_len;
+	uint64_t *gaps;
+	size_t gaps_len;
+	uint64_t *remembered;
+	size_t remembered_len;
+};
+
+#define BIZHGEMU_LENT(q) \
+	(q)->entries, (q)->entries_len, (q)->payloads, (q)->payloads_len, \
+	(q)->gaps, (q)->gaps_len, (q)->remembered, (q)->remembered_len
+
+/* The calls again, on a queue: the answer is the same struct, and the session in the queue follows it. A refused call
+ * leaves the queue as it was. */
+
+static inline struct bizhgemu_opened bizhgemu_queue_open(struct bizhgemu_queue *q, struct bizhgemu_config config)
+{
+	const struct bizhgemu_opened r = bizhgemu_open(config, BIZHGEMU_LENT(q));
+	if (r.refusal == 0)
+		q->session = r.session;
+	return r;
+}
+
+static inline struct bizhgemu_pushed bizhgemu_queue_push(struct bizhgemu_queue *q, uint64_t now, const uint8_t *datagram, size_t length)
+{
+	const struct bizhgemu_pushed r = bizhgemu_push(q->session, BIZHGEMU_LENT(q), now, datagram, length);
+	if (r.refusal == 0)
+		q->session = r.session;
+	return r;
+}
+
+static inline struct bizhgemu_pushed bizhgemu_queue_push_rtx(struct bizhgemu_queue *q, uint64_t now, const uint8_t *datagram, size_t length)
+{
+	const struct bizhgemu_pushed r = bizhgemu_push_rtx(q->session, BIZHGEMU_LENT(q), now, datagram, length);
+	if (r.refusal == 0)
+		q->session = r.session;
+	return r;
+}
+
+static inline struct bizhgemu_polled bizhgemu_queue_poll(struct bizhgemu_queue *q, uint64_t now, uint8_t *out, size_t length)
+{
+	const struct bizhgemu_polled r = bizhgemu_poll(q->session, BIZHGEMU_LENT(q), now, out, length);
+	if (r.refusal == 0)
+		q->session = r.session;
+	return r;
+}
+
+static inline struct bizhgemu_polled_nack bizhgemu_queue_poll_nack(struct bizhgemu_queue *q, uint64_t now, uint16_t *out, size_t length)
+{
+	const struct bizhgemu_polled_nack r = bizhgemu_poll_nack(q->session, BIZHGEMU_LENT(q), now, out, length);
+	if (r.refusal == 0)
+		q->session = r.session;
+	return r;
+}
+
+/* The smaller of the two timeouts: how long a host may sleep if no datagram comes. */
+static inline struct bizhgemu_timeout bizhgemu_queue_timeout(const struct bizhgemu_queue *q, uint64_t now)
+{
+	const struct bizhgemu_timeout receive = bizhgemu_timeout_receive(q->session, BIZHGEMU_LENT(q), now);
+	const struct bizhgemu_timeout nack = bizhgemu_timeout_nack(q->session, BIZHGEMU_LENT(q), now);
+	if (!receive.has_timeout || (nack.has_timeout && nack.timeout < receive.timeout))
+		return nack;
+	return receive;
+}
+
+static inline struct bizhgemu_rtx_stats bizhgemu_queue_rtx_stats(const struct bizhgemu_queue *q)
+{
+	return bizhgemu_rtx_stats(q->session, BIZHGEMU_LENT(q));
+}
+
+static inline struct bizhgemu_highest bizhgemu_queue_highest(const struct bizhgemu_queue *q)
+{
+	return bizhgemu_highest_sequence_number_received(q->session, BIZHGEMU_LENT(q));
+}
+
+static inline struct bizhgemu_figures bizhgemu_queue_figures(const struct bizhgemu_queue *q)
+{
+	return bizhgemu_figures(q->session);
+}
+
+#ifdef __cplusplus
+}
+#endif
+
+#endif

@@ -1,0 +1,289 @@
+use crate::answers::{Figures, Media, Packet, Repair, RtxStats};
+use crate::config::Config;
+use crate::ffi;
+use crate::refusal::Refusal;
+use crate::time::nanoseconds;
+use std::fmt;
+use std::time::Duration;
+
+/// The longest payload: what `poll` is lent to write into.
+pub(crate) const LONGEST_PAYLOAD: usize = 320;
+
+/// The storage of a session, of the exact lengths that its settings ask for.
+#[derive(Clone)]
+#[cfg_attr(test, derive(Debug, PartialEq))]
+pub(crate) struct Storage {
+    pub(crate) entries: Box<[u64]>,
+    pub(crate) payloads: Box<[u8]>,
+    pub(crate) gaps: Box<[u64]>,
+    pub(crate) remembered: Box<[u64]>,
+}
+
+impl Storage {
+    fn new(config: &Config) -> Result<Storage, Refusal> {
+        let lengths = ffi::bizhgemu_lengths(config.max_entries, config.max_gaps);
+        Refusal::check(lengths.refusal)?;
+        Ok(Storage {
+            entries: vec![0; lengths.entries].into(),
+            payloads: vec![0; lengths.payloads].into(),
+            gaps: vec![0; lengths.gaps].into(),
+            remembered: vec![0; lengths.remembered].into(),
+        })
+    }
+
+    pub(crate) fn open(&mut self, config: ffi::Config) -> ffi::Opened {
+        let Storage { entries, payloads, gaps, remembered } = self;
+        // SAFETY: four live slices of the lengths passed, each of another allocation; the function asks nothing else.
+        unsafe {
+            ffi::bizhgemu_open(
+                config,
+                entries.as_mut_ptr(),
+                entries.len(),
+                payloads.as_mut_ptr(),
+                payloads.len(),
+                gaps.as_mut_ptr(),
+                gaps.len(),
+                remembered.as_mut_ptr(),
+                remembered.len(),
+            )
+        }
+    }
+}
+
+/// Makes a call of the boundary that is lent session and storage, with the call's own arguments after them.
+macro_rules! lend {
+    ($function:ident, $session:expr, $storage:expr $(, $argument:expr)*) => {{
+        let Storage { entries, payloads, gaps, remembered } = &mut $storage;
+        // SAFETY: four live slices of the lengths passed, each of another allocation; the arguments after them are numbers, or
+        // pointer and length of one live slice apart from the four. The function asks nothing else of any value.
+        unsafe {
+            ffi::$function(
+                $session,
+                entries.as_mut_ptr(),
+                entries.len(),
+                payloads.as_mut_ptr(),
+                payloads.len(),
+                gaps.as_mut_ptr(),
+                gaps.len(),
+                remembered.as_mut_ptr(),
+                remembered.len(),
+                $($argument),*
+            )
+        }
+    }};
+}
+#[cfg(test)]
+pub(crate) use lend;
+
+/// The receive queue of one RTP stream. It owns its session and storage; opening is the only time it allocates.
+///
+/// Instants are durations since the box started, from one [`Clock`](crate::Clock). `push`, `push_rtx`, `poll` and
+/// `poll_nack` advance the queue's clock where they are accepted; an instant before it is refused under 8, and so is one
+/// above [`LATEST`](crate::LATEST). The timeouts don't advance it.
+///
+/// The numbers under "Errors" stand in the order in which they are checked. Every call looks through session and storage
+/// first and refuses under 16 what is damaged; since a queue owns both, that means that memory was overwritten. Calls that
+/// only read take `&mut self` because every accepted call leaves zeros in unused storage.
+#[derive(Clone)]
+pub struct Queue {
+    pub(crate) session: ffi::Session,
+    pub(crate) storage: Storage,
+    payload: [u8; LONGEST_PAYLOAD],
+    numbers: Box<[u16]>,
+}
+
+impl Queue {
+    /// Opens a queue. Its storage takes 704 · D + 32 · G + 16,384 bytes for D and G of the settings.
+    ///
+    /// # Errors
+    ///
+    /// [`Refusal::Settings`] where a setting is out of its range.
+    pub fn open(config: &Config) -> Result<Queue, Refusal> {
+        let mut storage = Storage::new(config)?;
+        let opened = storage.open(config.words());
+        Refusal::check(opened.refusal)?;
+        Ok(Queue {
+            session: opened.session,
+            storage,
+            payload: [0; LONGEST_PAYLOAD],
+            numbers: vec![0; config.max_gaps].into(),
+        })
+    }
+
+    /// Takes a media datagram, header and all.
+    ///
+    /// # Errors
+    ///
+    /// Refused under 8; 2 to 7; 14; 12.
+    pub fn push(&mut self, now: Duration, datagram: &[u8]) -> Result<Media, Refusal> {
+        let pushed =
+            lend!(bizhgemu_push, self.session, self.storage, nanoseconds(now), datagram.as_ptr(), datagram.len());
+        Refusal::check(pushed.refusal)?;
+        self.session = pushed.session;
+        Ok(if pushed.answer == 0 { Media::Queued } else { Media::Dropped })
+    }
+
+    /// Takes a repair: the RTX packet as it was sent (RFC 4588).
+    ///
+    /// # Errors
+    ///
+    /// Refused under 8; 9; 2 to 7; 10; 11; 14; 13.
+    pub fn push_rtx(&mut self, now: Duration, datagram: &[u8]) -> Result<Repair, Refusal> {
+        let pushed =
+            lend!(bizhgemu_push_rtx, self.session, self.storage, nanoseconds(now), datagram.as_ptr(), datagram.len());
+        Refusal::check(pushed.refusal)?;
+        self.session = pushed.session;
+        Ok(match pushed.answer {
+            0 => Repair::Recovered,
+            1 => Repair::Redundant,
+            _ => Repair::TooLate,
+        })
+    }
+
+    /// Hands out the next packet, if one is due. Call it until it hands out nothing.
+    ///
+    /// # Errors
+    ///
+    /// Refused under 8; 14.
+    pub fn poll(&mut self, now: Duration) -> Result<Option<Packet<'_>>, Refusal> {
+        let polled = lend!(
+            bizhgemu_poll,
+            self.session,
+            self.storage,
+            nanoseconds(now),
+            self.payload.as_mut_ptr(),
+            self.payload.len()
+        );
+        Refusal::check(polled.refusal)?;
+        self.session = polled.session;
+        if polled.has_packet == 0 {
+            return Ok(None);
+        }
+        let packet = polled.packet;
+        Ok(Some(Packet {
+            received_at: told(packet.has_received_at, packet.received_at).map(Duration::from_nanos),
+            delay: Duration::from_nanos(packet.delay),
+            timestamp: packet.timestamp,
+            ssrc: packet.ssrc,
+            sequence_number: packet.sequence_number,
+            payload_type: packet.pt,
+            marker: packet.marker != 0,
+            payload: &self.payload[..packet.size],
+        }))
+    }
+
+    /// The numbers to ask the sender for again, in ascending order of their extended numbers; empty where none is due.
+    ///
+    /// # Errors
+    ///
+    /// Refused under 8; 14.
+    pub fn poll_nack(&mut self, now: Duration) -> Result<&[u16], Refusal> {
+        let polled = lend!(
+            bizhgemu_poll_nack,
+            self.session,
+            self.storage,
+            nanoseconds(now),
+            self.numbers.as_mut_ptr(),
+            self.numbers.len()
+        );
+        Refusal::check(polled.refusal)?;
+        self.session = polled.session;
+        Ok(&self.numbers[..polled.count])
+    }
+
+    /// The time from `now` to the next packet that [`poll`](Queue::poll) hands out; none while nothing waits.
+    ///
+    /// # Errors
+    ///
+    /// Refused under 8.
+    pub fn timeout_receive(&mut self, now: Duration) -> Result<Option<Duration>, Refusal> {
+        let answer = lend!(bizhgemu_timeout_receive, self.session, self.storage, nanoseconds(now));
+        timeout(answer)
+    }
+
+    /// The time from `now` to the next number that [`poll_nack`](Queue::poll_nack) names; none while nothing is missing.
+    ///
+    /// # Errors
+    ///
+    /// Refused under 8.
+    pub fn timeout_nack(&mut self, now: Duration) -> Result<Option<Duration>, Refusal> {
+        let answer = lend!(bizhgemu_timeout_nack, self.session, self.storage, nanoseconds(now));
+        timeout(answer)
+    }
+
+    /// The smaller of the two timeouts: how long a host may sleep if no datagram comes.
+    ///
+    /// # Errors
+    ///
+    /// Refused under 8.
+    pub fn timeout(&mut self, now: Duration) -> Result<Option<Duration>, Refusal> {
+        let receive = self.timeout_receive(now)?;
+        let nack = self.timeout_nack(now)?;
+        Ok(receive.into_iter().chain(nack).min())
+    }
+
+    /// The figures of repairs; none for a session without RTX.
+    ///
+    /// # Errors
+    ///
+    /// Refused under 16 alone.
+    pub fn rtx_stats(&mut self) -> Result<Option<RtxStats>, Refusal> {
+        let stats = lend!(bizhgemu_rtx_stats, self.session, self.storage);
+        Refusal::check(stats.refusal)?;
+        if stats.has_stats == 0 {
+            return Ok(None);
+        }
+        Ok(Some(RtxStats {
+            packets_received_in_time: stats.packets_received_in_time,
+            packets_received_too_late: stats.packets_received_too_late,
+            packets_received_redundant: stats.packets_received_redundant,
+            bytes_received: stats.bytes_received,
+            rtt: told(stats.has_rtt, stats.rtt).map(Duration::from_nanos),
+        }))
+    }
+
+    /// The extended number of the media packet with the highest number; none before the first.
+    ///
+    /// # Errors
+    ///
+    /// Refused under 16 alone.
+    pub fn highest_sequence_number_received(&mut self) -> Result<Option<u64>, Refusal> {
+        let highest = lend!(bizhgemu_highest_sequence_number_received, self.session, self.storage);
+        Refusal::check(highest.refusal)?;
+        Ok(told(highest.has_number, highest.number))
+    }
+
+    /// The figures a box shows.
+    ///
+    /// # Errors
+    ///
+    /// Refused under 16 alone.
+    pub fn figures(&self) -> Result<Figures, Refusal> {
+        let figures = ffi::bizhgemu_figures(self.session);
+        Refusal::check(figures.refusal)?;
+        Ok(Figures {
+            packets_received: figures.packets_received,
+            packets_dropped: figures.packets_dropped,
+            packets_lost: figures.packets_lost,
+            bytes_received: figures.bytes_received,
+            jitter: Duration::from_nanos(figures.jitter),
+            loss: figures.loss,
+        })
+    }
+}
+
+impl fmt::Debug for Queue {
+    fn fmt(&self, f: &mut fmt::Formatter<'_>) -> fmt::Result {
+        f.debug_struct("Queue").field("session", &self.session).finish_non_exhaustive()
+    }
+}
+
+fn timeout(answer: ffi::Timeout) -> Result<Option<Duration>, Refusal> {
+    Refusal::check(answer.refusal)?;
+    Ok(told(answer.has_timeout, answer.timeout).map(Duration::from_nanos))
+}
+
+/// A value beside its flag.
+pub(crate) fn told(flag: u64, value: u64) -> Option<u64> {
+    (flag != 0).then_some(value)
+}

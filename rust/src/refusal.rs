@@ -1,0 +1,193 @@
+use std::fmt;
+
+/// Why a call was turned back. A refused call changes nothing: not the queue, not its clock, not a byte of storage.
+///
+/// The order of the variants is that of [`number`](Refusal::number), not that in which a call is checked.
+#[derive(Clone, Copy, Debug, PartialEq, Eq, Hash, PartialOrd, Ord)]
+#[repr(u8)]
+pub enum Refusal {
+    /// 1: a setting is out of its range; see [`Config`](crate::Config).
+    Settings = 1,
+    /// 2: the datagram ends within its header.
+    Truncated,
+    /// 3: the datagram's version is not 2.
+    Version,
+    /// 4: the count of padding bytes cannot be right.
+    Padding,
+    /// 5: the payload is over 320 bytes (of a repair: over 322).
+    PayloadTooLarge,
+    /// 6: the payload type is not the session's.
+    PayloadType,
+    /// 7: the SSRC is not the session's.
+    Ssrc,
+    /// 8: the instant is before the latest accepted one, or above [`LATEST`](crate::LATEST).
+    Clock,
+    /// 9: a repair for a session that was opened without RTX.
+    NoRtx,
+    /// 10: a repair before any media packet.
+    NoMedia,
+    /// 11: a repair too short to name its original number.
+    NoOriginalNumber,
+    /// 12: the packet would open more gaps than the queue has places for.
+    GapsFull,
+    /// 13: a repair with `2 * max_entries` packets waiting.
+    EntriesFull,
+    /// 14: a number, timestamp or counter would pass 2^52 - 1.
+    Count,
+    /// 15: the lent output is too short. [`Queue`](crate::Queue) never lends one that is.
+    Output,
+    /// 16: session or storage is damaged. [`Queue`](crate::Queue) owns both, so memory was overwritten from elsewhere.
+    Session,
+}
+
+/// Every refusal with what it means and what to do about it.
+const TABLE: [(Refusal, &str, &str); 16] = [
+    (
+        Refusal::Settings,
+        "a setting is out of its range",
+        "correct the settings; the ranges stand beside the fields of `Config`",
+    ),
+    (
+        Refusal::Truncated,
+        "the datagram ends within its RTP header",
+        "drop it; if many come, something other than RTP is sent to this port",
+    ),
+    (
+        Refusal::Version,
+        "the datagram is not RTP version 2",
+        "drop it; STUN and DTLS on a shared port look like this and do no harm",
+    ),
+    (
+        Refusal::Padding,
+        "the datagram's padding is longer than the datagram, or counts nothing",
+        "drop it; the sender or the way is damaging packets",
+    ),
+    (
+        Refusal::PayloadTooLarge,
+        "the payload is over 320 bytes",
+        "set the sender to 20 ms packets; each such packet is counted as lost later",
+    ),
+    (
+        Refusal::PayloadType,
+        "the payload type is not the session's",
+        "drop it if it is RTCP; if loss rises beside it, the sender mixes payload types in one stream: switch the other one off",
+    ),
+    (
+        Refusal::Ssrc,
+        "the sender (SSRC) is not the session's",
+        "drop it; if nothing else comes, the sender changed its SSRC: open a new session with it",
+    ),
+    (
+        Refusal::Clock,
+        "the instant is before the latest accepted one, or past 2^52 - 1 nanoseconds (52 days)",
+        "take instants from one clock that never goes back; open a new session with a new clock before 52 days are over",
+    ),
+    (
+        Refusal::NoRtx,
+        "a repair came for a session without RTX",
+        "open the session with `Config::rtx`, or do not hand repairs to it",
+    ),
+    (Refusal::NoMedia, "a repair came before any media packet", "drop it; at the start of a stream this is harmless"),
+    (
+        Refusal::NoOriginalNumber,
+        "a repair is too short to name the number it repairs",
+        "drop it; senders that probe bandwidth with padding do this",
+    ),
+    (
+        Refusal::GapsFull,
+        "the packet would open more gaps than `max_gaps` allows",
+        "poll, so that old gaps are given up; raise `max_gaps`, or open a new session if the sender restarted",
+    ),
+    (
+        Refusal::EntriesFull,
+        "a repair came while twice `max_entries` packets wait",
+        "poll until nothing is handed out; raise `max_entries`",
+    ),
+    (Refusal::Count, "a number, timestamp or counter would pass 2^52 - 1", "open a new session"),
+    (
+        Refusal::Output,
+        "the lent output is too short",
+        "lend `poll` at least 320 bytes and `poll_nack` at least `max_gaps` numbers",
+    ),
+    (
+        Refusal::Session,
+        "session or storage is damaged, or not that of these settings",
+        "open a new session; memory was overwritten, or storage of another session was lent",
+    ),
+];
+
+impl Refusal {
+    /// All sixteen, by number.
+    pub fn all() -> impl ExactSizeIterator<Item = Refusal> {
+        TABLE.iter().map(|(refusal, ..)| *refusal)
+    }
+
+    /// The number of the refusal, 1 to 16.
+    pub fn number(self) -> u8 {
+        self as u8
+    }
+
+    /// The refusal of a number; none for 0, which is no refusal, and for numbers above 16.
+    pub fn from_number(number: u64) -> Option<Refusal> {
+        let place = usize::try_from(number.checked_sub(1)?).ok()?;
+        TABLE.get(place).map(|(refusal, ..)| *refusal)
+    }
+
+    /// What it means.
+    pub fn meaning(self) -> &'static str {
+        self.row().1
+    }
+
+    /// What to do about it.
+    pub fn remedy(self) -> &'static str {
+        self.row().2
+    }
+
+    fn row(self) -> &'static (Refusal, &'static str, &'static str) {
+        &TABLE[usize::from(self.number()) - 1]
+    }
+
+    /// What an exported function answered: nothing, or the refusal.
+    pub(crate) fn check(number: u64) -> Result<(), Refusal> {
+        match Refusal::from_number(number) {
+            Some(refusal) => Err(refusal),
+            None if number == 0 => Ok(()),
+            None => {
+                unreachable!("libffi.a is not the library of this crate: it refused under {number}")
+            }
+        }
+    }
+}
+
+impl fmt::Display for Refusal {
+    fn fmt(&self, f: &mut fmt::Formatter<'_>) -> fmt::Result {
+        write!(f, "refused under {}: {}; {}", self.number(), self.meaning(), self.remedy())
+    }
+}
+
+impl std::error::Error for Refusal {}
+
+#[cfg(test)]
+mod tests {
+    use super::*;
+
+    #[test]
+    fn numbers_and_table_agree() {
+        for (place, refusal) in Refusal::all().enumerate() {
+            assert_eq!(usize::from(refusal.number()), place + 1);
+            assert_eq!(Refusal::from_number(u64::from(refusal.number())), Some(refusal));
+        }
+        assert_eq!(Refusal::from_number(0), None);
+        assert_eq!(Refusal::from_number(17), None);
+        assert_eq!(Refusal::from_number(u64::MAX), None);
+    }
+
+    #[test]
+    fn says_what_to_do() {
+        let text = Refusal::NoMedia.to_string();
+        assert_eq!(
+            text,
+            "refused under 10: a repair came before any media packet; drop it; at the start of a stream this is harmless"
+        );
+    }
+}

@@ -1,0 +1,84 @@
+//! The structs of the boundary are written three times: in Rattle, in the C header, and in src/ffi.rs. Field by field they are the same.
+
+use std::collections::BTreeMap;
+use std::fs;
+use std::path::{Path, PathBuf};
+
+/// Fields, each a name and a type, by the struct's name.
+type Structs = BTreeMap<String, Vec<(String, String)>>;
+
+fn top() -> PathBuf {
+    Path::new(env!("CARGO_MANIFEST_DIR")).join("..")
+}
+
+/// The `#[repr(C)]` structs of a Rust or Rattle source. Rattle's `ConfigWords` and `SessionWords` are `Config` and `Session` here.
+fn of_rust(text: &str) -> Structs {
+    let plain = |name: &str| name.trim_end_matches("Words").to_string();
+    let parts = text.split("#[repr(C)]").skip(1);
+    let structs = parts.filter_map(|part| part.split_once("pub struct ")?.1.split_once('}'));
+    structs
+        .filter_map(|(text, _)| text.split_once(" {"))
+        .map(|(name, fields)| {
+            let fields = fields.lines().filter_map(|line| {
+                let (name, kind) = line.trim().strip_prefix("pub ")?.split_once(": ")?;
+                Some((name.to_string(), plain(kind.trim_end_matches(','))))
+            });
+            (plain(name), fields.collect())
+        })
+        .collect()
+}
+
+/// The structs of the header, in Rust's words.
+fn of_header(text: &str) -> Structs {
+    let parts = text.split("\nstruct bizhgemu_").skip(1);
+    let structs = parts.filter_map(|part| part.split_once("\n};")?.0.split_once(" {\n"));
+    structs
+        .map(|(name, fields)| {
+            let lines = fields.lines().filter(|line| !line.trim().starts_with("/*"));
+            let fields = lines.filter_map(|line| {
+                let (kind, name) = line.split_once(';')?.0.trim().rsplit_once(' ')?;
+                Some((name.to_string(), rust_type(kind)))
+            });
+            (camel_case(name), fields.collect())
+        })
+        .filter(|(name, _)| name != "Queue")
+        .collect()
+}
+
+fn rust_type(kind: &str) -> String {
+    match kind {
+        "uint64_t" => "u64".into(),
+        "uint32_t" => "u32".into(),
+        "uint16_t" => "u16".into(),
+        "uint8_t" => "u8".into(),
+        "size_t" => "usize".into(),
+        "double" => "f64".into(),
+        "float" => "f32".into(),
+        kind => camel_case(kind.trim_start_matches("struct bizhgemu_")),
+    }
+}
+
+fn camel_case(name: &str) -> String {
+    let words = name.split('_');
+    words.map(|word| word[..1].to_uppercase() + &word[1..]).collect()
+}
+
+#[test]
+fn the_header_has_the_same_structs() {
+    let ours = of_rust(include_str!("../src/ffi.rs"));
+    assert_eq!(ours.len(), 12);
+    assert_eq!(ours["Session"].len(), 25);
+    assert_eq!(ours, of_header(include_str!("../../include/bizhgemu.h")));
+}
+
+#[test]
+fn the_library_has_the_same_structs() {
+    let mut library = Structs::new();
+    for folder in ["crates/ffi/src", "crates/ffi_words/src"] {
+        for file in fs::read_dir(top().join(folder)).expect("the crates of the boundary") {
+            let text = fs::read_to_string(file.unwrap().path()).unwrap();
+            library.extend(of_rust(&text));
+        }
+    }
+    assert_eq!(library, of_rust(include_str!("../src/ffi.rs")));
+}

@@ -1,0 +1,189 @@
+//! A host that is driven by the lines of a trace (docs/TRACE.md).
+
+mod line;
+
+use bizhgemu::{Config, Media, Mode, Packet, Queue, Refusal, Repair, Rtx};
+use line::Call;
+use std::fmt::Display;
+use std::time::Duration;
+
+/// The queue of the latest accepted `open`.
+#[derive(Default)]
+pub struct Host(Option<Queue>);
+
+impl Host {
+    /// The lines that answer a line.
+    pub fn answer(&mut self, line: &[u8]) -> Vec<String> {
+        if line.is_empty() || line[0] == b'#' {
+            return Vec::new();
+        }
+        let Some(call) = line::read(line) else {
+            return vec!["unreadable".into()];
+        };
+        let answer = match (call, &mut self.0) {
+            (Call::Open(fields), _) => self.open(fields),
+            (_, None) => Ok(vec!["no session".into()]),
+            (Call::State, Some(queue)) => state(queue),
+            (call, Some(queue)) => make(queue, call).map(|line| vec![line]),
+        };
+        answer.unwrap_or_else(|refusal| vec![format!("refused {}", refusal.number())])
+    }
+
+    fn open(&mut self, fields: [u64; 13]) -> Result<Vec<String>, Refusal> {
+        let config = config(fields).ok_or(Refusal::Settings)?;
+        self.0 = Some(Queue::open(&config)?);
+        Ok(vec!["opened".into()])
+    }
+}
+
+/// None where a field does not fit the type it has in `Config`, which is refused under 1 as well (docs/TRACE.md). The payload type
+/// of repairs counts where there are none, too.
+fn config(fields: [u64; 13]) -> Option<Config> {
+    let [mode, clock_rate, max_entries, max_gaps, delay, initial, resend, max, ..] = fields;
+    let [.., payload_type, ssrc, rtx, rtx_pt, rtx_ssrc] = fields;
+    let repairs =
+        Rtx { payload_type: u8::try_from(rtx_pt).ok().filter(|pt| *pt <= 127)?, ssrc: rtx_ssrc.try_into().ok()? };
+    Some(Config {
+        mode: match mode {
+            0 => Mode::Passthrough,
+            1 => Mode::SortedQueue,
+            _ => return None,
+        },
+        clock_rate: clock_rate.try_into().ok()?,
+        delay: Duration::from_nanos(delay),
+        max_entries: max_entries.try_into().ok()?,
+        max_gaps: max_gaps.try_into().ok()?,
+        initial_nack_delay: Duration::from_nanos(initial),
+        default_nack_resend_delay: Duration::from_nanos(resend),
+        max_nack_attempts: max.try_into().ok()?,
+        payload_type: payload_type.try_into().ok()?,
+        ssrc: ssrc.try_into().ok()?,
+        rtx: match rtx {
+            0 => None,
+            1 => Some(repairs),
+            _ => return None,
+        },
+        ..Config::default()
+    })
+}
+
+fn make(queue: &mut Queue, call: Call) -> Result<String, Refusal> {
+    let at = Duration::from_nanos;
+    Ok(match call {
+        Call::Media(now, bytes) => match queue.push(at(now), &bytes)? {
+            Media::Queued => "queued".into(),
+            Media::Dropped => "dropped".into(),
+        },
+        Call::Repair(now, bytes) => match queue.push_rtx(at(now), &bytes)? {
+            Repair::Recovered => "recovered".into(),
+            Repair::Redundant => "redundant".into(),
+            Repair::TooLate => "too late".into(),
+        },
+        Call::Poll(now) => queue.poll(at(now))?.map_or("nothing".into(), packet),
+        Call::PollNack(now) => nack(queue.poll_nack(at(now))?),
+        Call::TimeoutReceive(now) => timeout(queue.timeout_receive(at(now))?),
+        Call::TimeoutNack(now) => timeout(queue.timeout_nack(at(now))?),
+        Call::RtxStats => rtx_stats(queue)?,
+        Call::Highest => match queue.highest_sequence_number_received()? {
+            Some(number) => format!("highest {number}"),
+            None => "none".into(),
+        },
+        Call::Open(_) | Call::State => unreachable!("answered by the host"),
+    })
+}
+
+fn packet(packet: Packet<'_>) -> String {
+    format!(
+        "packet {} {} {} {} {} {} {} {}",
+        packet.payload_type,
+        packet.sequence_number,
+        packet.timestamp,
+        packet.ssrc,
+        u8::from(packet.marker),
+        or_none(packet.received_at.map(|instant| instant.as_nanos())),
+        packet.delay.as_nanos(),
+        hex(packet.payload),
+    )
+}
+
+fn nack(numbers: &[u16]) -> String {
+    if numbers.is_empty() {
+        return "nothing".into();
+    }
+    numbers.iter().fold("nack".to_string(), |line, number| format!("{line} {number}"))
+}
+
+fn timeout(timeout: Option<Duration>) -> String {
+    timeout.map_or("none".into(), |timeout| format!("after {}", timeout.as_nanos()))
+}
+
+fn rtx_stats(queue: &mut Queue) -> Result<String, Refusal> {
+    let Some(stats) = queue.rtx_stats()? else {
+        return Ok("none".into());
+    };
+    Ok(format!(
+        "rtx {} {} {} {} {}",
+        stats.packets_received_in_time,
+        stats.packets_received_too_late,
+        stats.packets_received_redundant,
+        stats.bytes_received,
+        or_none(stats.rtt.map(|rtt| rtt.as_nanos())),
+    ))
+}
+
+fn state(queue: &mut Queue) -> Result<Vec<String>, Refusal> {
+    let rtx = queue.rtx_stats()?;
+    let figures = queue.figures()?;
+    let last = queue.last_received();
+    let round_trip = rtx.and(queue.round_trip());
+    let fields = [
+        queue.clock().as_nanos().to_string(),
+        figures.packets_received.to_string(),
+        figures.bytes_received.to_string(),
+        figures.packets_dropped.to_string(),
+        figures.packets_lost.to_string(),
+        format!("{:016x}", queue.jitter_ticks().to_bits()),
+        format!("{:08x}", figures.loss.to_bits()),
+        or_none(last.map(|last| last.instant.as_nanos())),
+        or_none(last.map(|last| last.timestamp)),
+        or_none(last.map(|last| last.number)),
+        or_none(queue.last_returned()),
+        or_none(round_trip.map(|round_trip| round_trip.srtt.as_nanos())),
+        or_none(round_trip.map(|round_trip| round_trip.variation.as_nanos())),
+        or_none(rtx.map(|stats| stats.packets_received_in_time)),
+        or_none(rtx.map(|stats| stats.packets_received_too_late)),
+        or_none(rtx.map(|stats| stats.packets_received_redundant)),
+        or_none(rtx.map(|stats| stats.bytes_received)),
+        queue.waiting().len().to_string(),
+        queue.gaps().len().to_string(),
+        queue.remembered().len().to_string(),
+    ];
+    let mut lines = vec![format!("state {}", fields.join(" "))];
+    lines.extend(lists(queue));
+    Ok(lines)
+}
+
+fn lists(queue: &Queue) -> impl Iterator<Item = String> {
+    let entries = queue.waiting().map(|entry| {
+        let arrival = or_none(entry.received_at.map(|instant| instant.as_nanos()));
+        let marker = u8::from(entry.marker);
+        format!("entry {} {} {arrival} {marker} {}", entry.number, entry.timestamp, hex(entry.payload))
+    });
+    let gaps = queue.gaps().map(|gap| {
+        let nacked = or_none(gap.nacked_at.map(|instant| instant.as_nanos()));
+        format!("gap {} {} {nacked} {}", gap.number, gap.detected_at.as_nanos(), gap.nacks)
+    });
+    let remembered = queue.remembered().map(|lost| format!("remembered {} {}", lost.number, lost.nacked_at.as_nanos()));
+    entries.chain(gaps).chain(remembered)
+}
+
+fn or_none(value: Option<impl Display>) -> String {
+    value.map_or("-".into(), |value| value.to_string())
+}
+
+fn hex(bytes: &[u8]) -> String {
+    if bytes.is_empty() {
+        return "-".into();
+    }
+    bytes.iter().map(|byte| format!("{byte:02x}")).collect()
+}
