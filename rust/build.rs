@@ -1,10 +1,10 @@
-//! Links the proved library, which `rt staticlib ffi` writes to target/staticlib/libffi.a of this repository.
+//! Links the proved library, which `rt staticlib ffi` writes to target/staticlib/libffi.a of this repository. It is linked under the name
+//! `bizhgemu`, since a box may have the well-known libffi too.
 
 use std::path::{Path, PathBuf};
 
 /// The variable that names another folder with the library, for a build outside this repository.
 const FOLDER: &str = "BIZHGEMU_LIB_DIR";
-const LIBRARY: &str = "ffi";
 
 fn main() {
     println!("cargo::rerun-if-env-changed={FOLDER}");
@@ -12,7 +12,7 @@ fn main() {
         Some(folder) => PathBuf::from(folder),
         None => Path::new(env!("CARGO_MANIFEST_DIR")).join("../target/staticlib"),
     };
-    let archive = folder.join(format!("lib{LIBRARY}.a"));
+    let archive = folder.join("libffi.a");
     println!("cargo::rerun-if-changed={}", archive.display());
     if !archive.is_file() {
         println!(
@@ -21,6 +21,8 @@ fn main() {
         );
         return;
     }
-    println!("cargo::rustc-link-search=native={}", folder.display());
-    println!("cargo::rustc-link-lib=static={LIBRARY}");
+    let out = PathBuf::from(std::env::var_os("OUT_DIR").expect("cargo names it"));
+    std::fs::copy(&archive, out.join("libbizhgemu.a")).expect("the archive can be copied");
+    println!("cargo::rustc-link-search=native={}", out.display());
+    println!("cargo::rustc-link-lib=static=bizhgemu");
 }
