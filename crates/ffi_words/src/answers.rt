@@ -1,4 +1,11 @@
 // What the exported calls answer. `refusal` is 01's number, or 0; what is not told (refused, or its flag is 0) is 0.
+ghost use mathlib.Core.Path.{_≡_};
+ghost use mathlib.Core.List.{[], _∷_};
+ghost use Rattle.model.specs.Calls as Calls;
+ghost use Rattle.model.specs.Did as Did;
+ghost use Rattle.queue.specs.Answers.{openingAnswer, mediaAnswer, repairAnswer, packetOf, pollAnswer, nackAnswer, timeoutAnswer, statsAnswer, highestAnswer};
+ghost use Rattle.ffi_words.specs.Words.{flag, wordsOf};
+ghost use Rattle.ffi_words.specs.Told.{optWords, packetWords, statsWords, back, pushed, polled, polledNack, timeoutTold, statsTold, highestTold, openTold, noFigures};
 use super::SessionWords;
 use model::Session;
 use queue::HandedOut;
@@ -112,14 +119,18 @@ pub struct OptWords {
     pub value: u64,
 }
 
-pub fn opt_words(o: Opt) -> OptWords {
+pub fn opt_words(o: Opt) -> OptWords
+    ensures { λ r. ⌜ r ≡ optWords o ⌝ }
+{
     match o {
         Opt::None => OptWords { has: 0, value: 0 },
         Opt::Some(x) => OptWords { has: 1, value: x },
     }
 }
 
-pub fn no_packet() -> Packet {
+pub fn no_packet() -> Packet
+    ensures { λ r. ⌜ r ≡ packetWords [] ⌝ }
+{
     Packet {
         has_received_at: 0,
         received_at: 0,
@@ -133,11 +144,15 @@ pub fn no_packet() -> Packet {
     }
 }
 
-fn flag8(b: bool) -> u8 {
+fn flag8(b: bool) -> u8
+    ensures { λ r. ⌜ r ≡ flag b ⌝ }
+{
     if b { 1 } else { 0 }
 }
 
-pub fn packet_words(h: HandedOut) -> Packet {
+pub fn packet_words(h: HandedOut) -> Packet
+    ensures { λ r. ⌜ r ≡ packetWords (packetOf h ∷ []) ⌝ }
+{
     let received_at = h.received_at;
     let arrival = opt_words(received_at);
     Packet {
@@ -155,12 +170,16 @@ pub fn packet_words(h: HandedOut) -> Packet {
 
 // ---- an answer of the queue's, with the words that the session was given in and the session that is left
 
-pub fn open_refused(refusal: u64) -> Opened {
+pub fn open_refused(refusal: u64) -> Opened
+    ensures { λ r. ⌜ r ≡ openTold (Did.refused refusal) ⌝ }
+{
     let session = super::no_session();
     Opened { refusal, session }
 }
 
-pub fn open_told(opening: Opening) -> Opened {
+pub fn open_told(opening: Opening) -> Opened
+    ensures { λ r. ⌜ r ≡ openTold (openingAnswer opening) ⌝ }
+{
     match opening {
         Opening::Session(s) => {
             let session = super::words_of(s);
@@ -173,7 +192,9 @@ pub fn open_told(opening: Opening) -> Opened {
     }
 }
 
-pub fn push_refused(refusal: u64, given: SessionWords) -> Pushed {
+pub fn push_refused(refusal: u64, given: SessionWords) -> Pushed
+    ensures { λ r. ⌜ r ≡ pushed (Calls.refused refusal) given ⌝ }
+{
     Pushed {
         refusal,
         answer: 0,
@@ -181,7 +202,9 @@ pub fn push_refused(refusal: u64, given: SessionWords) -> Pushed {
     }
 }
 
-fn push_done(answer: u64, left: Session) -> Pushed {
+fn push_done(answer: u64, left: Session) -> Pushed
+    ensures { λ r. ⌜ r ≡ record { refusal = 0; answer = answer; session = wordsOf left } ⌝ }
+{
     let session = super::words_of(left);
     Pushed {
         refusal: 0,
@@ -190,7 +213,9 @@ fn push_done(answer: u64, left: Session) -> Pushed {
     }
 }
 
-pub fn media(answer: MediaAnswer, given: SessionWords, left: Session) -> Pushed {
+pub fn media(answer: MediaAnswer, given: SessionWords, left: Session) -> Pushed
+    ensures { λ r. ⌜ r ≡ back pushed (mediaAnswer answer) given left ⌝ }
+{
     match answer {
         MediaAnswer::Queued => push_done(0, left),
         MediaAnswer::Dropped => push_done(1, left),
@@ -198,7 +223,9 @@ pub fn media(answer: MediaAnswer, given: SessionWords, left: Session) -> Pushed 
     }
 }
 
-pub fn repair(answer: RepairAnswer, given: SessionWords, left: Session) -> Pushed {
+pub fn repair(answer: RepairAnswer, given: SessionWords, left: Session) -> Pushed
+    ensures { λ r. ⌜ r ≡ back pushed (repairAnswer answer) given left ⌝ }
+{
     match answer {
         RepairAnswer::Recovered => push_done(0, left),
         RepairAnswer::Redundant => push_done(1, left),
@@ -207,7 +234,9 @@ pub fn repair(answer: RepairAnswer, given: SessionWords, left: Session) -> Pushe
     }
 }
 
-pub fn poll_refused(refusal: u64, given: SessionWords) -> Polled {
+pub fn poll_refused(refusal: u64, given: SessionWords) -> Polled
+    ensures { λ r. ⌜ r ≡ polled (Calls.refused refusal) given ⌝ }
+{
     let packet = no_packet();
     Polled {
         refusal,
@@ -217,7 +246,9 @@ pub fn poll_refused(refusal: u64, given: SessionWords) -> Polled {
     }
 }
 
-fn poll_done(has_packet: u64, packet: Packet, left: Session) -> Polled {
+fn poll_done(has_packet: u64, packet: Packet, left: Session) -> Polled
+    ensures { λ r. ⌜ r ≡ record { refusal = 0; «has_packet» = «has_packet»; packet = packet; session = wordsOf left } ⌝ }
+{
     let session = super::words_of(left);
     Polled {
         refusal: 0,
@@ -227,7 +258,9 @@ fn poll_done(has_packet: u64, packet: Packet, left: Session) -> Polled {
     }
 }
 
-pub fn poll(answer: PollAnswer, given: SessionWords, left: Session) -> Polled {
+pub fn poll(answer: PollAnswer, given: SessionWords, left: Session) -> Polled
+    ensures { λ r. ⌜ r ≡ back polled (pollAnswer answer) given left ⌝ }
+{
     match answer {
         PollAnswer::Nothing => poll_done(0, no_packet(), left),
         PollAnswer::Packet(h) => poll_done(1, packet_words(h), left),
@@ -235,7 +268,9 @@ pub fn poll(answer: PollAnswer, given: SessionWords, left: Session) -> Polled {
     }
 }
 
-pub fn nack_refused(refusal: u64, given: SessionWords) -> PolledNack {
+pub fn nack_refused(refusal: u64, given: SessionWords) -> PolledNack
+    ensures { λ r. ⌜ r ≡ polledNack (Calls.refused refusal) given ⌝ }
+{
     PolledNack {
         refusal,
         count: 0,
@@ -243,7 +278,9 @@ pub fn nack_refused(refusal: u64, given: SessionWords) -> PolledNack {
     }
 }
 
-fn nack_done(count: usize, left: Session) -> PolledNack {
+fn nack_done(count: usize, left: Session) -> PolledNack
+    ensures { λ r. ⌜ r ≡ record { refusal = 0; count = count; session = wordsOf left } ⌝ }
+{
     let session = super::words_of(left);
     PolledNack {
         refusal: 0,
@@ -252,7 +289,9 @@ fn nack_done(count: usize, left: Session) -> PolledNack {
     }
 }
 
-pub fn nack(answer: NackAnswer, given: SessionWords, left: Session) -> PolledNack {
+pub fn nack(answer: NackAnswer, given: SessionWords, left: Session) -> PolledNack
+    ensures { λ r. ⌜ r ≡ back polledNack (nackAnswer answer) given left ⌝ }
+{
     match answer {
         NackAnswer::Nothing => nack_done(0, left),
         NackAnswer::Numbers(n) => nack_done(n, left),
@@ -260,7 +299,9 @@ pub fn nack(answer: NackAnswer, given: SessionWords, left: Session) -> PolledNac
     }
 }
 
-pub fn timeout_refused(refusal: u64) -> Timeout {
+pub fn timeout_refused(refusal: u64) -> Timeout
+    ensures { λ r. ⌜ r ≡ timeoutTold (Calls.refused refusal) ⌝ }
+{
     Timeout {
         refusal,
         has_timeout: 0,
@@ -268,7 +309,9 @@ pub fn timeout_refused(refusal: u64) -> Timeout {
     }
 }
 
-pub fn timeout_told(answer: TimeoutAnswer) -> Timeout {
+pub fn timeout_told(answer: TimeoutAnswer) -> Timeout
+    ensures { λ r. ⌜ r ≡ timeoutTold (timeoutAnswer answer) ⌝ }
+{
     match answer {
         TimeoutAnswer::Timeout(t) => {
             let words = opt_words(t);
@@ -282,7 +325,9 @@ pub fn timeout_told(answer: TimeoutAnswer) -> Timeout {
     }
 }
 
-pub fn stats_refused(refusal: u64) -> RtxStats {
+pub fn stats_refused(refusal: u64) -> RtxStats
+    ensures { λ r. ⌜ r ≡ statsWords refusal OptRtxStats.None ⌝ }
+{
     RtxStats {
         refusal,
         has_stats: 0,
@@ -295,7 +340,9 @@ pub fn stats_refused(refusal: u64) -> RtxStats {
     }
 }
 
-fn stats_words(stats: OptRtxStats) -> RtxStats {
+fn stats_words(stats: OptRtxStats) -> RtxStats
+    ensures { λ r. ⌜ r ≡ statsWords 0 stats ⌝ }
+{
     match stats {
         OptRtxStats::None => stats_refused(0),
         OptRtxStats::Some(f) => {
@@ -315,14 +362,18 @@ fn stats_words(stats: OptRtxStats) -> RtxStats {
     }
 }
 
-pub fn stats_told(answer: StatsAnswer) -> RtxStats {
+pub fn stats_told(answer: StatsAnswer) -> RtxStats
+    ensures { λ r. ⌜ r ≡ statsTold (statsAnswer answer) ⌝ }
+{
     match answer {
         StatsAnswer::Stats(stats) => stats_words(stats),
         StatsAnswer::Refused(k) => stats_refused(k),
     }
 }
 
-pub fn highest_refused(refusal: u64) -> Highest {
+pub fn highest_refused(refusal: u64) -> Highest
+    ensures { λ r. ⌜ r ≡ highestTold (Calls.refused refusal) ⌝ }
+{
     Highest {
         refusal,
         has_number: 0,
@@ -330,7 +381,9 @@ pub fn highest_refused(refusal: u64) -> Highest {
     }
 }
 
-pub fn highest_told(answer: HighestAnswer) -> Highest {
+pub fn highest_told(answer: HighestAnswer) -> Highest
+    ensures { λ r. ⌜ r ≡ highestTold (highestAnswer answer) ⌝ }
+{
     match answer {
         HighestAnswer::None => highest_refused(0),
         HighestAnswer::Number(n) => Highest {
@@ -342,7 +395,9 @@ pub fn highest_told(answer: HighestAnswer) -> Highest {
     }
 }
 
-pub fn figures_refused(refusal: u64) -> Figures {
+pub fn figures_refused(refusal: u64) -> Figures
+    ensures { λ r. ⌜ r ≡ noFigures refusal ⌝ }
+{
     Figures {
         refusal,
         packets_received: 0,

@@ -1,5 +1,8 @@
 // The session and its settings as they cross the boundary: plain numbers, no bool and no enum. A flag is a word, 0 or 1; where it is 0, the
 // values beside it are not looked at, and are 0 in what comes back.
+ghost use mathlib.Core.Path.{_≡_};
+ghost use Rattle.ffi_words.specs.Words as Words;
+ghost use Rattle.ffi_words.specs.Words.{Kept, flag};
 use config::RtpInboundQueueMode;
 use config::Senders;
 use config::Settings;
@@ -90,17 +93,23 @@ pub struct RttWords {
 
 // ---- from words
 
-pub fn config_readable(c: ConfigWords) -> bool {
+pub fn config_readable(c: ConfigWords) -> bool
+    ensures { λ r. ⌜ r ≡ Words.configReadable c ⌝ }
+{
     (c.mode <= 1) & (c.has_rtx <= 1)
 }
 
 // Each flag is 0 or 1.
-pub fn readable(s: SessionWords) -> bool {
+pub fn readable(s: SessionWords) -> bool
+    ensures { λ r. ⌜ r ≡ Words.readable s ⌝ }
+{
     let config = s.config;
     config_readable(config) & (s.has_last <= 1) & (s.has_returned <= 1) & (s.has_rtt <= 1)
 }
 
-fn mode_of(mode: u32) -> RtpInboundQueueMode {
+fn mode_of(mode: u32) -> RtpInboundQueueMode
+    ensures { λ r. ⌜ r ≡ Words.modeOf mode ⌝ }
+{
     if mode == 0 {
         RtpInboundQueueMode::Passthrough
     } else {
@@ -108,7 +117,9 @@ fn mode_of(mode: u32) -> RtpInboundQueueMode {
     }
 }
 
-pub fn config_of(c: ConfigWords) -> Config {
+pub fn config_of(c: ConfigWords) -> Config
+    ensures { λ r. ⌜ r ≡ Words.configOf c ⌝ }
+{
     let mode = mode_of(c.mode);
     let settings = Settings {
         mode,
@@ -131,34 +142,50 @@ pub fn config_of(c: ConfigWords) -> Config {
     Config { settings, senders }
 }
 
-fn last_of(has: u64, instant: u64, timestamp: u64, number: u64) -> LastReceived {
-    if has == 0 {
+fn last_of(w: LastWords) -> LastReceived
+    ensures { λ r. ⌜ r ≡ Words.lastOf w ⌝ }
+{
+    if w.has == 0 {
         return LastReceived::None;
     }
     let received = Received {
-        instant,
-        timestamp: ExtendedRtpTimestamp(timestamp),
-        number: ExtendedSequenceNumber(number),
+        instant: w.instant,
+        timestamp: ExtendedRtpTimestamp(w.timestamp),
+        number: ExtendedSequenceNumber(w.number),
     };
     LastReceived::Some(received)
 }
 
-fn returned_of(has: u64, number: u64) -> LastReturned {
-    if has == 0 {
+fn returned_of(w: ReturnedWords) -> LastReturned
+    ensures { λ r. ⌜ r ≡ Words.returnedOf w ⌝ }
+{
+    if w.has == 0 {
         return LastReturned::None;
     }
-    LastReturned::Some(ExtendedSequenceNumber(number))
+    LastReturned::Some(ExtendedSequenceNumber(w.number))
 }
 
-fn rtt_of(has: u64, srtt: u64, variation: u64) -> OptRtt {
-    if has == 0 {
+fn rtt_of(w: RttWords) -> OptRtt
+    ensures { λ r. ⌜ r ≡ Words.rttOf w ⌝ }
+{
+    if w.has == 0 {
         return OptRtt::None;
     }
-    OptRtt::Some(RtxRtt { srtt, variation })
+    OptRtt::Some(RtxRtt {
+        srtt: w.srtt,
+        variation: w.variation,
+    })
 }
 
-fn rtx_of(s: SessionWords) -> RtxState {
-    let rtt = rtt_of(s.has_rtt, s.srtt, s.variation);
+fn rtx_of(s: SessionWords) -> RtxState
+    ensures { λ r. ⌜ r ≡ Words.queueOf s .rtx ⌝ }
+{
+    let estimate = RttWords {
+        has: s.has_rtt,
+        srtt: s.srtt,
+        variation: s.variation,
+    };
+    let rtt = rtt_of(estimate);
     RtxState {
         rtt,
         received_in_time: s.rtx_in_time,
@@ -168,10 +195,22 @@ fn rtx_of(s: SessionWords) -> RtxState {
     }
 }
 
-pub fn queue_of(s: SessionWords) -> Queue {
+pub fn queue_of(s: SessionWords) -> Queue
+    ensures { λ r. ⌜ r ≡ Words.queueOf s ⌝ }
+{
     let config = config_of(s.config);
-    let last = last_of(s.has_last, s.last_instant, s.last_timestamp, s.last_number);
-    let returned = returned_of(s.has_returned, s.returned);
+    let highest = LastWords {
+        has: s.has_last,
+        instant: s.last_instant,
+        timestamp: s.last_timestamp,
+        number: s.last_number,
+    };
+    let last = last_of(highest);
+    let passed = ReturnedWords {
+        has: s.has_returned,
+        number: s.returned,
+    };
+    let returned = returned_of(passed);
     let rtx = rtx_of(s);
     let counters = Counters {
         dropped: s.dropped,
@@ -196,7 +235,9 @@ pub fn queue_of(s: SessionWords) -> Queue {
     }
 }
 
-pub fn session_of(s: SessionWords) -> Session {
+pub fn session_of(s: SessionWords) -> Session
+    ensures { λ r. ⌜ r ≡ Words.sessionOf s ⌝ }
+{
     let queue = queue_of(s);
     Session {
         queue,
@@ -208,18 +249,24 @@ pub fn session_of(s: SessionWords) -> Session {
 
 // ---- to words
 
-fn mode_word(mode: RtpInboundQueueMode) -> u32 {
+fn mode_word(mode: RtpInboundQueueMode) -> u32
+    ensures { λ r. ⌜ r ≡ Words.modeWord mode ⌝ }
+{
     match mode {
         RtpInboundQueueMode::Passthrough => 0,
         RtpInboundQueueMode::SortedQueue => 1,
     }
 }
 
-fn flag32(b: bool) -> u32 {
+fn flag32(b: bool) -> u32
+    ensures { λ r. ⌜ r ≡ flag b ⌝ }
+{
     if b { 1 } else { 0 }
 }
 
-fn config_words(c: Config) -> ConfigWords {
+fn config_words(c: Config) -> ConfigWords
+    ensures { λ r. ⌜ r ≡ Words.configWords c ⌝ }
+{
     let settings = c.settings;
     let mode = settings.mode;
     let senders = c.senders;
@@ -241,7 +288,9 @@ fn config_words(c: Config) -> ConfigWords {
     }
 }
 
-fn last_words(last: LastReceived) -> LastWords {
+fn last_words(last: LastReceived) -> LastWords
+    ensures { λ r. ⌜ r ≡ Words.lastWords last ⌝ }
+{
     match last {
         LastReceived::None => LastWords {
             has: 0,
@@ -258,7 +307,9 @@ fn last_words(last: LastReceived) -> LastWords {
     }
 }
 
-fn returned_words(returned: LastReturned) -> ReturnedWords {
+fn returned_words(returned: LastReturned) -> ReturnedWords
+    ensures { λ r. ⌜ r ≡ Words.returnedWords returned ⌝ }
+{
     match returned {
         LastReturned::None => ReturnedWords { has: 0, number: 0 },
         LastReturned::Some(n) => ReturnedWords {
@@ -268,7 +319,9 @@ fn returned_words(returned: LastReturned) -> ReturnedWords {
     }
 }
 
-fn rtt_words(rtt: OptRtt) -> RttWords {
+fn rtt_words(rtt: OptRtt) -> RttWords
+    ensures { λ r. ⌜ r ≡ Words.rttWords rtt ⌝ }
+{
     match rtt {
         OptRtt::None => RttWords {
             has: 0,
@@ -283,7 +336,9 @@ fn rtt_words(rtt: OptRtt) -> RttWords {
     }
 }
 
-pub fn words_of(s: Session) -> SessionWords {
+pub fn words_of(s: Session) -> SessionWords
+    ensures { λ r. ⌜ r ≡ Words.wordsOf s ⌝ }
+{
     let q = s.queue;
     let config = config_words(q.config);
     let last = q.last;
@@ -326,7 +381,9 @@ pub fn words_of(s: Session) -> SessionWords {
 }
 
 // What a refused opening gives in place of a session.
-pub fn no_session() -> SessionWords {
+pub fn no_session() -> SessionWords
+    ensures { λ r. ⌜ r ≡ Words.noSession ⌝ }
+{
     let config = ConfigWords {
         delay: 0,
         initial_nack_delay: 0,
@@ -371,3 +428,8 @@ pub fn no_session() -> SessionWords {
         loss: 0.0,
     }
 }
+
+// What a call writes, the next one reads as it was.
+pub fn words_are_kept()
+    ensures { λ r. ⌜ Kept ⌝ }
+{}
