@@ -1,7 +1,15 @@
 // The library for C and Rust: the opening, the eight calls and two readings, on words that the caller keeps and storage that it lends.
 // No function asks anything of its caller but live slices of the lengths passed, none of which overlaps another that is written.
+ghost use mathlib.Core.Path.{_≡_};
+ghost use mathlib.Core.List.{[]};
+ghost use Rattle.model.specs.Calls as Calls;
+ghost use Rattle.queue.specs.Answers.{storage};
+ghost use Rattle.ffi_words.specs.Told as Told;
+ghost use Rattle.ffi.specs.Exported as Exported;
+ghost use Rattle.ffi.specs.Exported.{Gives, alone, openedWords};
 use ffi_words::ConfigWords;
 use ffi_words::SessionWords;
+use ffi_words::answers;
 use ffi_words::answers::Figures;
 use ffi_words::answers::Highest;
 use ffi_words::answers::Lengths;
@@ -12,6 +20,12 @@ use ffi_words::answers::Pushed;
 use ffi_words::answers::RtxStats;
 use ffi_words::answers::Timeout;
 use model::Queue;
+use queue::nack;
+use queue::open;
+use queue::poll;
+use queue::push;
+use queue::reading;
+use queue::rtx;
 
 #[no_mangle]
 pub extern "C" fn bizhgemu_open(
@@ -20,18 +34,20 @@ pub extern "C" fn bizhgemu_open(
     payloads: &mut [u8],
     gaps: &mut [u64],
     remembered: &mut [u64],
-) -> Opened {
+) -> Opened
+    ensures { λ r. ⌜ openedWords config (storage (entries .entry .now) (payloads .entry .now) (gaps .entry .now) (remembered .entry .now)) ≡ record { value = r; storage = storage (entries .exit .now) (payloads .exit .now) (gaps .exit .now) (remembered .exit .now); output = [] } ⌝ }
+{
     if !ffi_words::config_readable(config) {
-        return ffi_words::answers::open_refused(refusals::SETTINGS);
+        return answers::open_refused(refusals::SETTINGS);
     }
-    let opening = queue::open::open(
+    let opening = open::open(
         ffi_words::config_of(config),
         entries,
         payloads,
         gaps,
         remembered,
     );
-    ffi_words::answers::open_told(opening)
+    answers::open_told(opening)
 }
 
 #[no_mangle]
@@ -43,15 +59,17 @@ pub extern "C" fn bizhgemu_push(
     remembered: &mut [u64],
     now: u64,
     datagram: &[u8],
-) -> Pushed {
+) -> Pushed
+    ensures { λ r. ⌜ Gives Told.pushed (Calls.media now (datagram .entry .now)) session (storage (entries .entry .now) (payloads .entry .now) (gaps .entry .now) (remembered .entry .now)) r (storage (entries .exit .now) (payloads .exit .now) (gaps .exit .now) (remembered .exit .now)) [] ⌝ }
+{
     if !ffi_words::readable(session) {
-        return ffi_words::answers::push_refused(refusals::SESSION, session);
+        return answers::push_refused(refusals::SESSION, session);
     }
     let read = ffi_words::session_of(session);
-    let done = queue::push::push(read, entries, payloads, gaps, remembered, now, datagram);
+    let done = push::push(read, entries, payloads, gaps, remembered, now, datagram);
     let answer = done.answer;
     let left = done.session;
-    ffi_words::answers::media(answer, session, left)
+    answers::media(answer, session, left)
 }
 
 #[no_mangle]
@@ -63,15 +81,17 @@ pub extern "C" fn bizhgemu_push_rtx(
     remembered: &mut [u64],
     now: u64,
     datagram: &[u8],
-) -> Pushed {
+) -> Pushed
+    ensures { λ r. ⌜ Gives Told.pushed (Calls.repair now (datagram .entry .now)) session (storage (entries .entry .now) (payloads .entry .now) (gaps .entry .now) (remembered .entry .now)) r (storage (entries .exit .now) (payloads .exit .now) (gaps .exit .now) (remembered .exit .now)) [] ⌝ }
+{
     if !ffi_words::readable(session) {
-        return ffi_words::answers::push_refused(refusals::SESSION, session);
+        return answers::push_refused(refusals::SESSION, session);
     }
     let read = ffi_words::session_of(session);
-    let done = queue::rtx::push_rtx(read, entries, payloads, gaps, remembered, now, datagram);
+    let done = rtx::push_rtx(read, entries, payloads, gaps, remembered, now, datagram);
     let answer = done.answer;
     let left = done.session;
-    ffi_words::answers::repair(answer, session, left)
+    answers::repair(answer, session, left)
 }
 
 #[no_mangle]
@@ -83,15 +103,17 @@ pub extern "C" fn bizhgemu_poll(
     remembered: &mut [u64],
     now: u64,
     out: &mut [u8],
-) -> Polled {
+) -> Polled
+    ensures { λ r. ⌜ Gives Told.polled (Calls.poll now (out .entry .now)) session (storage (entries .entry .now) (payloads .entry .now) (gaps .entry .now) (remembered .entry .now)) r (storage (entries .exit .now) (payloads .exit .now) (gaps .exit .now) (remembered .exit .now)) (out .exit .now) ⌝ }
+{
     if !ffi_words::readable(session) {
-        return ffi_words::answers::poll_refused(refusals::SESSION, session);
+        return answers::poll_refused(refusals::SESSION, session);
     }
     let read = ffi_words::session_of(session);
-    let done = queue::poll::poll(read, entries, payloads, gaps, remembered, now, out);
+    let done = poll::poll(read, entries, payloads, gaps, remembered, now, out);
     let answer = done.answer;
     let left = done.session;
-    ffi_words::answers::poll(answer, session, left)
+    answers::poll(answer, session, left)
 }
 
 #[no_mangle]
@@ -103,15 +125,17 @@ pub extern "C" fn bizhgemu_poll_nack(
     remembered: &mut [u64],
     now: u64,
     out: &mut [u16],
-) -> PolledNack {
+) -> PolledNack
+    ensures { λ r. ⌜ Gives Told.polledNack (Calls.pollNack now (out .entry .now)) session (storage (entries .entry .now) (payloads .entry .now) (gaps .entry .now) (remembered .entry .now)) r (storage (entries .exit .now) (payloads .exit .now) (gaps .exit .now) (remembered .exit .now)) (out .exit .now) ⌝ }
+{
     if !ffi_words::readable(session) {
-        return ffi_words::answers::nack_refused(refusals::SESSION, session);
+        return answers::nack_refused(refusals::SESSION, session);
     }
     let read = ffi_words::session_of(session);
-    let done = queue::nack::poll_nack(read, entries, payloads, gaps, remembered, now, out);
+    let done = nack::poll_nack(read, entries, payloads, gaps, remembered, now, out);
     let answer = done.answer;
     let left = done.session;
-    ffi_words::answers::nack(answer, session, left)
+    answers::nack(answer, session, left)
 }
 
 #[no_mangle]
@@ -122,13 +146,15 @@ pub extern "C" fn bizhgemu_timeout_receive(
     gaps: &mut [u64],
     remembered: &mut [u64],
     now: u64,
-) -> Timeout {
+) -> Timeout
+    ensures { λ r. ⌜ Gives (alone Told.timeoutTold) (Calls.timeoutReceive now) session (storage (entries .entry .now) (payloads .entry .now) (gaps .entry .now) (remembered .entry .now)) r (storage (entries .exit .now) (payloads .exit .now) (gaps .exit .now) (remembered .exit .now)) [] ⌝ }
+{
     if !ffi_words::readable(session) {
-        return ffi_words::answers::timeout_refused(refusals::SESSION);
+        return answers::timeout_refused(refusals::SESSION);
     }
     let read = ffi_words::session_of(session);
-    let answer = queue::reading::timeout_receive(read, entries, payloads, gaps, remembered, now);
-    ffi_words::answers::timeout_told(answer)
+    let answer = reading::timeout_receive(read, entries, payloads, gaps, remembered, now);
+    answers::timeout_told(answer)
 }
 
 #[no_mangle]
@@ -139,13 +165,15 @@ pub extern "C" fn bizhgemu_timeout_nack(
     gaps: &mut [u64],
     remembered: &mut [u64],
     now: u64,
-) -> Timeout {
+) -> Timeout
+    ensures { λ r. ⌜ Gives (alone Told.timeoutTold) (Calls.timeoutNack now) session (storage (entries .entry .now) (payloads .entry .now) (gaps .entry .now) (remembered .entry .now)) r (storage (entries .exit .now) (payloads .exit .now) (gaps .exit .now) (remembered .exit .now)) [] ⌝ }
+{
     if !ffi_words::readable(session) {
-        return ffi_words::answers::timeout_refused(refusals::SESSION);
+        return answers::timeout_refused(refusals::SESSION);
     }
     let read = ffi_words::session_of(session);
-    let answer = queue::reading::timeout_nack(read, entries, payloads, gaps, remembered, now);
-    ffi_words::answers::timeout_told(answer)
+    let answer = reading::timeout_nack(read, entries, payloads, gaps, remembered, now);
+    answers::timeout_told(answer)
 }
 
 #[no_mangle]
@@ -155,13 +183,15 @@ pub extern "C" fn bizhgemu_rtx_stats(
     payloads: &mut [u8],
     gaps: &mut [u64],
     remembered: &mut [u64],
-) -> RtxStats {
+) -> RtxStats
+    ensures { λ r. ⌜ Gives (alone Told.statsTold) Calls.rtxStats session (storage (entries .entry .now) (payloads .entry .now) (gaps .entry .now) (remembered .entry .now)) r (storage (entries .exit .now) (payloads .exit .now) (gaps .exit .now) (remembered .exit .now)) [] ⌝ }
+{
     if !ffi_words::readable(session) {
-        return ffi_words::answers::stats_refused(refusals::SESSION);
+        return answers::stats_refused(refusals::SESSION);
     }
     let read = ffi_words::session_of(session);
-    let answer = queue::reading::rtx_stats(read, entries, payloads, gaps, remembered);
-    ffi_words::answers::stats_told(answer)
+    let answer = reading::rtx_stats(read, entries, payloads, gaps, remembered);
+    answers::stats_told(answer)
 }
 
 #[no_mangle]
@@ -171,28 +201,32 @@ pub extern "C" fn bizhgemu_highest_sequence_number_received(
     payloads: &mut [u8],
     gaps: &mut [u64],
     remembered: &mut [u64],
-) -> Highest {
+) -> Highest
+    ensures { λ r. ⌜ Gives (alone Told.highestTold) Calls.highestReceived session (storage (entries .entry .now) (payloads .entry .now) (gaps .entry .now) (remembered .entry .now)) r (storage (entries .exit .now) (payloads .exit .now) (gaps .exit .now) (remembered .exit .now)) [] ⌝ }
+{
     if !ffi_words::readable(session) {
-        return ffi_words::answers::highest_refused(refusals::SESSION);
+        return answers::highest_refused(refusals::SESSION);
     }
     let read = ffi_words::session_of(session);
-    let answer = queue::reading::highest_sequence_number_received(
+    let answer = reading::highest_sequence_number_received(
         read,
         entries,
         payloads,
         gaps,
         remembered,
     );
-    ffi_words::answers::highest_told(answer)
+    answers::highest_told(answer)
 }
 
-fn figures_told(q: Queue) -> Figures {
+fn figures_told(q: Queue) -> Figures
+    ensures { λ r. ⌜ r ≡ Exported.queueFigures q ⌝ }
+{
     let config = q.config;
     if !session::check::config_valid(config) {
-        return ffi_words::answers::figures_refused(refusals::SESSION);
+        return answers::figures_refused(refusals::SESSION);
     }
     if !session::check::queue_sound(q) {
-        return ffi_words::answers::figures_refused(refusals::SESSION);
+        return answers::figures_refused(refusals::SESSION);
     }
     let counters = q.counters;
     let jitter = q.jitter;
@@ -209,14 +243,18 @@ fn figures_told(q: Queue) -> Figures {
 }
 
 #[no_mangle]
-pub extern "C" fn bizhgemu_figures(session: SessionWords) -> Figures {
+pub extern "C" fn bizhgemu_figures(session: SessionWords) -> Figures
+    ensures { λ r. ⌜ r ≡ Exported.figures session ⌝ }
+{
     if !ffi_words::readable(session) {
-        return ffi_words::answers::figures_refused(refusals::SESSION);
+        return answers::figures_refused(refusals::SESSION);
     }
     figures_told(ffi_words::queue_of(session))
 }
 
-fn no_lengths() -> Lengths {
+fn no_lengths() -> Lengths
+    ensures { λ r. ⌜ r ≡ Exported.noLengths ⌝ }
+{
     Lengths {
         refusal: refusals::SETTINGS,
         entries: 0,
@@ -227,7 +265,9 @@ fn no_lengths() -> Lengths {
 }
 
 #[no_mangle]
-pub extern "C" fn bizhgemu_lengths(max_entries: usize, max_gaps: usize) -> Lengths {
+pub extern "C" fn bizhgemu_lengths(max_entries: usize, max_gaps: usize) -> Lengths
+    ensures { λ r. ⌜ r ≡ Exported.lengths «max_entries» «max_gaps» ⌝ }
+{
     if max_entries < 1 {
         return no_lengths();
     }
@@ -240,10 +280,11 @@ pub extern "C" fn bizhgemu_lengths(max_entries: usize, max_gaps: usize) -> Lengt
     if 4096 < max_gaps {
         return no_lengths();
     }
+    let places = 2 * max_entries;
     Lengths {
         refusal: 0,
-        entries: 8 * max_entries,
-        payloads: 640 * max_entries,
+        entries: 4 * places,
+        payloads: 320 * places,
         gaps: 4 * max_gaps,
         remembered: 2048,
     }

@@ -326,7 +326,7 @@ pub fn timeout_told(answer: TimeoutAnswer) -> Timeout
 }
 
 pub fn stats_refused(refusal: u64) -> RtxStats
-    ensures { λ r. ⌜ r ≡ statsWords refusal OptRtxStats.None ⌝ }
+    ensures { λ r. ⌜ r ≡ statsTold (Calls.refused refusal) ⌝ }
 {
     RtxStats {
         refusal,

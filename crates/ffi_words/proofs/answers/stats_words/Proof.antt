@@ -1,7 +1,7 @@
 -- `stats_words` meets its contract: each arm is a line of the definition.
 use mathlib.Core.Path.{_≡_}
-use Rattle.stats.specs.declared.OptRtxStats.the-variants.{Some}
-use Rattle.ffi_words.specs.Told.{statsWords}
+use Rattle.stats.specs.declared.OptRtxStats.the-variants.{None, Some}
+use Rattle.ffi_words.specs.Told.{refusalIn, statsIn, optWords, statsWords, statsTold}
 use borrow.Author.Needs.{needs}
 use Rattle.ffi_words.proofs.answers.stats_words.Statement.{statement}
 use Rattle.ffi_words.proofs.answers.stats_words.Tie as tie
@@ -19,8 +19,8 @@ opt-words-requires : tie.Need-opt-words-requires
 opt-words-requires c κs = search needs
 
 returns : tie.Need-returns
-unfolding statsWords
-returns c = cc
+unfolding refusalIn statsIn optWords statsWords statsTold
+returns c = let e : c .before .before .before .args .stats ≡ None = c .before .enum-told .given .1 in rw e (c .stats-refused .ensures)
 
 returns-2 : tie.Need-returns-2
 unfolding statsWords
