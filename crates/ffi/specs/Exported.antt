@@ -1,7 +1,7 @@
 -- The exported functions: `did` and `opened` of `model`, on words. Words that cannot be read are refused, and nothing changes: under 1 at the opening,
 -- under 16 in a call.
 use mathlib.Core.Path.{_≡_}
-use mathlib.Core.Bool.{Bool, _&&_, cond}
+use mathlib.Core.Bool.{true, _&&_, cond}
 use mathlib.Core.List.{List, []}
 use Prim.Native.Nat.{ℕ, _*_}
 use Rattle.refusals.specs.Refusals.{SETTINGS, SESSION}
@@ -10,10 +10,11 @@ use Rattle.config.specs.Valid.{within}
 use Rattle.model.specs.declared.Queue.{Queue}
 use Rattle.model.specs.Rules.{MAX-LOST-NACKED}
 use Rattle.model.specs.Valid.{queueSound}
-use Rattle.model.specs.Storage.{Storage, ENTRY-WORDS, PAYLOAD-BYTES, GAP-WORDS, REMEMBERED-WORDS}
+use Rattle.model.specs.Records.{newState}
+use Rattle.model.specs.Storage.{Storage, Stored, write, ENTRY-WORDS, PAYLOAD-BYTES, GAP-WORDS, REMEMBERED-WORDS}
 use Rattle.model.specs.Calls as Calls
 use Rattle.model.specs.Calls.{Answer, Call, outputOf}
-use Rattle.model.specs.Table.{configValid}
+use Rattle.model.specs.Table.{configValid, openingRefusal}
 use Rattle.model.specs.Did as Did
 use Rattle.model.specs.Did.{Done, did, opened}
 use Rattle.ffi_words.specs.declared.ConfigWords.{ConfigWords}
@@ -53,6 +54,17 @@ openedBy o = record { value = openTold (o .answer); storage = o .storage; output
 
 unfoldable pub openedWords : ConfigWords → Storage → Given Opened
 openedWords c t = openedBy (cond (configReadable c) (opened (configOf c) t) (record { answer = Did.refused SETTINGS; storage = t }))
+
+-- ---- call after call
+
+-- the words that come back
+abbrev pub words : Answer → SessionWords → SessionWords
+words a w = w
+
+-- Call after call on words is a run of the queue's calls: what comes back stands for the session that is left, refused or not.
+pub record Follows : Type 0 where
+  pub at-opening : (c : ConfigWords) (t : Storage) → configReadable c ≡ true → openingRefusal (configOf c) t ≡ 0 → let g = openedWords c t in (readable (g .value .session) ≡ true) × (record { session = sessionOf (g .value .session); storage = g .storage } ≡ write (newState (configOf c)))
+  pub at-call : (c : Call) (w : SessionWords) (t : Storage) → readable w ≡ true → let g = called words c w t in (readable (g .value) ≡ true) × (record { session = sessionOf (g .value); storage = g .storage } ≡ did c (record { session = sessionOf w; storage = t }) .stored)
 
 -- ---- two readings without storage
 

@@ -6,7 +6,7 @@ ghost use Rattle.model.specs.Calls as Calls;
 ghost use Rattle.queue.specs.Answers.{storage};
 ghost use Rattle.ffi_words.specs.Told as Told;
 ghost use Rattle.ffi.specs.Exported as Exported;
-ghost use Rattle.ffi.specs.Exported.{Gives, alone, openedWords};
+ghost use Rattle.ffi.specs.Exported.{Follows, Gives, alone, openedWords};
 use ffi_words::ConfigWords;
 use ffi_words::SessionWords;
 use ffi_words::answers;
@@ -289,3 +289,8 @@ pub extern "C" fn bizhgemu_lengths(max_entries: usize, max_gaps: usize) -> Lengt
         remembered: 2048,
     }
 }
+
+// What comes back from one call, the next one takes up.
+pub fn calls_follow()
+    ensures { λ r. ⌜ Follows ⌝ }
+{}
