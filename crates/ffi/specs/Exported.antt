@@ -1,5 +1,5 @@
--- The exported functions: `did` and `opened` of `model`, on words. Words that cannot be read are refused, and nothing changes: under 1 at the opening,
--- under 16 in a call.
+-- The exported functions: `did` and `opened` of `model`, on words. Words that cannot be read are refused, and nothing changes:
+-- under 1 at the opening, under 16 in a call.
 use mathlib.Core.Path.{_≡_}
 use mathlib.Core.Bool.{true, _&&_, cond}
 use mathlib.Core.List.{List, []}

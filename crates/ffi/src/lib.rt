@@ -27,6 +27,7 @@ use queue::push;
 use queue::reading;
 use queue::rtx;
 
+// A refused opening gives a session of zeros.
 #[no_mangle]
 pub extern "C" fn bizhgemu_open(
     config: ConfigWords,
@@ -50,6 +51,7 @@ pub extern "C" fn bizhgemu_open(
     answers::open_told(opening)
 }
 
+// In this and each later call: words that cannot be read are refused under 16, and a refused call gives the words back as they came.
 #[no_mangle]
 pub extern "C" fn bizhgemu_push(
     session: SessionWords,
@@ -69,7 +71,7 @@ pub extern "C" fn bizhgemu_push(
     let done = push::push(read, entries, payloads, gaps, remembered, now, datagram);
     let answer = done.answer;
     let left = done.session;
-    answers::media(answer, session, left)
+    answers::media_told(answer, session, left)
 }
 
 #[no_mangle]
@@ -91,7 +93,7 @@ pub extern "C" fn bizhgemu_push_rtx(
     let done = rtx::push_rtx(read, entries, payloads, gaps, remembered, now, datagram);
     let answer = done.answer;
     let left = done.session;
-    answers::repair(answer, session, left)
+    answers::repair_told(answer, session, left)
 }
 
 #[no_mangle]
@@ -113,7 +115,7 @@ pub extern "C" fn bizhgemu_poll(
     let done = poll::poll(read, entries, payloads, gaps, remembered, now, out);
     let answer = done.answer;
     let left = done.session;
-    answers::poll(answer, session, left)
+    answers::poll_told(answer, session, left)
 }
 
 #[no_mangle]
@@ -135,7 +137,7 @@ pub extern "C" fn bizhgemu_poll_nack(
     let done = nack::poll_nack(read, entries, payloads, gaps, remembered, now, out);
     let answer = done.answer;
     let left = done.session;
-    answers::nack(answer, session, left)
+    answers::nack_told(answer, session, left)
 }
 
 #[no_mangle]
@@ -242,6 +244,7 @@ fn figures_told(q: Queue) -> Figures
     }
 }
 
+// The inbound stream; refused under 16 where the settings or the session's own records do not pass it.
 #[no_mangle]
 pub extern "C" fn bizhgemu_figures(session: SessionWords) -> Figures
     ensures { λ r. ⌜ r ≡ Exported.figures session ⌝ }
@@ -264,6 +267,7 @@ fn no_lengths() -> Lengths
     }
 }
 
+// How long the lent slices are to be, by D and G.
 #[no_mangle]
 pub extern "C" fn bizhgemu_lengths(max_entries: usize, max_gaps: usize) -> Lengths
     ensures { λ r. ⌜ r ≡ Exported.lengths «max_entries» «max_gaps» ⌝ }

@@ -213,7 +213,7 @@ fn push_done(answer: u64, left: Session) -> Pushed
     }
 }
 
-pub fn media(answer: MediaAnswer, given: SessionWords, left: Session) -> Pushed
+pub fn media_told(answer: MediaAnswer, given: SessionWords, left: Session) -> Pushed
     ensures { λ r. ⌜ r ≡ back pushed (mediaAnswer answer) given left ⌝ }
 {
     match answer {
@@ -223,7 +223,7 @@ pub fn media(answer: MediaAnswer, given: SessionWords, left: Session) -> Pushed
     }
 }
 
-pub fn repair(answer: RepairAnswer, given: SessionWords, left: Session) -> Pushed
+pub fn repair_told(answer: RepairAnswer, given: SessionWords, left: Session) -> Pushed
     ensures { λ r. ⌜ r ≡ back pushed (repairAnswer answer) given left ⌝ }
 {
     match answer {
@@ -258,7 +258,7 @@ fn poll_done(has_packet: u64, packet: Packet, left: Session) -> Polled
     }
 }
 
-pub fn poll(answer: PollAnswer, given: SessionWords, left: Session) -> Polled
+pub fn poll_told(answer: PollAnswer, given: SessionWords, left: Session) -> Polled
     ensures { λ r. ⌜ r ≡ back polled (pollAnswer answer) given left ⌝ }
 {
     match answer {
@@ -289,7 +289,7 @@ fn nack_done(count: usize, left: Session) -> PolledNack
     }
 }
 
-pub fn nack(answer: NackAnswer, given: SessionWords, left: Session) -> PolledNack
+pub fn nack_told(answer: NackAnswer, given: SessionWords, left: Session) -> PolledNack
     ensures { λ r. ⌜ r ≡ back polledNack (nackAnswer answer) given left ⌝ }
 {
     match answer {

@@ -1,5 +1,5 @@
-// The session and its settings as they cross the boundary: plain numbers, no bool and no enum. A flag is a word, 0 or 1; where it is 0, the
-// values beside it are not looked at, and are 0 in what comes back.
+// The session and its settings as they cross the boundary: plain numbers, no bool and no enum. A flag is a word, 0 or 1. Where the flag
+// of a record is 0, its values are not looked at, and are 0 in what comes back; settings beside `has_rtx` stay as they are.
 ghost use mathlib.Core.Path.{_≡_};
 ghost use Rattle.ffi_words.specs.Words as Words;
 ghost use Rattle.ffi_words.specs.Words.{Kept, flag};
@@ -288,9 +288,10 @@ fn config_words(c: Config) -> ConfigWords
     }
 }
 
-fn last_words(last: LastReceived) -> LastWords
-    ensures { λ r. ⌜ r ≡ Words.lastWords last ⌝ }
+fn last_words(q: Queue) -> LastWords
+    ensures { λ r. ⌜ r ≡ Words.lastWords (q .last) ⌝ }
 {
+    let last = q.last;
     match last {
         LastReceived::None => LastWords {
             has: 0,
@@ -307,9 +308,10 @@ fn last_words(last: LastReceived) -> LastWords
     }
 }
 
-fn returned_words(returned: LastReturned) -> ReturnedWords
-    ensures { λ r. ⌜ r ≡ Words.returnedWords returned ⌝ }
+fn returned_words(q: Queue) -> ReturnedWords
+    ensures { λ r. ⌜ r ≡ Words.returnedWords (q .returned) ⌝ }
 {
+    let returned = q.returned;
     match returned {
         LastReturned::None => ReturnedWords { has: 0, number: 0 },
         LastReturned::Some(n) => ReturnedWords {
@@ -319,9 +321,10 @@ fn returned_words(returned: LastReturned) -> ReturnedWords
     }
 }
 
-fn rtt_words(rtt: OptRtt) -> RttWords
-    ensures { λ r. ⌜ r ≡ Words.rttWords rtt ⌝ }
+fn rtt_words(rtx: RtxState) -> RttWords
+    ensures { λ r. ⌜ r ≡ Words.rttWords (rtx .rtt) ⌝ }
 {
+    let rtt = rtx.rtt;
     match rtt {
         OptRtt::None => RttWords {
             has: 0,
@@ -341,16 +344,9 @@ pub fn words_of(s: Session) -> SessionWords
 {
     let q = s.queue;
     let config = config_words(q.config);
-    let last = q.last;
-    let highest = last_words(last);
-    let returned = q.returned;
-    let passed = returned_words(returned);
-    let rtx = q.rtx;
-    let rtt = rtx.rtt;
-    let estimate = rtt_words(rtt);
-    let counters = q.counters;
-    let jitter = q.jitter;
-    let loss = q.loss;
+    let highest = last_words(q);
+    let passed = returned_words(q);
+    let estimate = rtt_words(q.rtx);
     SessionWords {
         config,
         clock: q.clock,
@@ -363,28 +359,27 @@ pub fn words_of(s: Session) -> SessionWords
         has_rtt: estimate.has,
         srtt: estimate.srtt,
         variation: estimate.variation,
-        rtx_in_time: rtx.received_in_time,
-        rtx_too_late: rtx.received_too_late,
-        rtx_redundant: rtx.received_redundant,
-        rtx_bytes: rtx.bytes_received,
-        dropped: counters.dropped,
-        received: counters.received,
-        bytes: counters.bytes,
-        lost: counters.lost,
-        jitter_clock_rate: jitter.clock_rate,
-        jitter: jitter.jitter,
+        rtx_in_time: q.rtx.received_in_time,
+        rtx_too_late: q.rtx.received_too_late,
+        rtx_redundant: q.rtx.received_redundant,
+        rtx_bytes: q.rtx.bytes_received,
+        dropped: q.counters.dropped,
+        received: q.counters.received,
+        bytes: q.counters.bytes,
+        lost: q.counters.lost,
+        jitter_clock_rate: q.jitter.clock_rate,
+        jitter: q.jitter.jitter,
         entries: s.entries,
         gaps: s.gaps,
         remembered: s.remembered,
-        loss: loss.loss,
+        loss: q.loss.loss,
     }
 }
 
-// What a refused opening gives in place of a session.
-pub fn no_session() -> SessionWords
-    ensures { λ r. ⌜ r ≡ Words.noSession ⌝ }
+fn no_config() -> ConfigWords
+    ensures { λ r. ⌜ r ≡ Words.noConfig ⌝ }
 {
-    let config = ConfigWords {
+    ConfigWords {
         delay: 0,
         initial_nack_delay: 0,
         default_nack_resend_delay: 0,
@@ -399,7 +394,14 @@ pub fn no_session() -> SessionWords
         rtx_ssrc: 0,
         pt: 0,
         rtx_pt: 0,
-    };
+    }
+}
+
+// What a refused opening gives in place of a session.
+pub fn no_session() -> SessionWords
+    ensures { λ r. ⌜ r ≡ Words.noSession ⌝ }
+{
+    let config = no_config();
     SessionWords {
         config,
         clock: 0,

@@ -28,8 +28,8 @@ session-of-requires c κs = search needs
 poll-requires : tie.Need-poll-requires
 poll-requires c κs = search needs
 
-poll-requires-2 : tie.Need-poll-requires-2
-poll-requires-2 c κs = search needs
+poll-told-requires : tie.Need-poll-told-requires
+poll-told-requires c κs = search needs
 
 same-length : tie.Need-same-length
 same-length c = search needs
@@ -49,7 +49,7 @@ same-length-5 c = search needs
 returns-2 : tie.Need-returns-2
 returns-2 c =
     let a = c .before .before .before .before .before .before .before .before .before .before .before .before .before .before .before .before .before .before .before .before .before .before .before .before .before .before .args in
-    was-read Told.polled (Calls.poll (a .now) (a .out .now)) (a .session) (storage (a .entries .now) (a .payloads .now) (a .gaps .now) (a .remembered .now)) _ (sym (c .before .before .before .before .before .before .before .before .before .before .before .before .before .before .before .before .before .before .before .before .readable .ensures) ∙ not-false _ (c .before .before .before .before .before .before .before .before .before .before .before .before .before .before .before .before .before .before .before .if1 .left)) (c .before .before .before .before .before .before .before .before .before .before .before .before .before .before .before .before .before .before .session-of .ensures) (c .before .before .before .before .before .before .before .before .before .before .before .before .poll .ensures) (c .poll2 .ensures)
+    was-read Told.polled (Calls.poll (a .now) (a .out .now)) (a .session) (storage (a .entries .now) (a .payloads .now) (a .gaps .now) (a .remembered .now)) _ (sym (c .before .before .before .before .before .before .before .before .before .before .before .before .before .before .before .before .before .before .before .before .readable .ensures) ∙ not-false _ (c .before .before .before .before .before .before .before .before .before .before .before .before .before .before .before .before .before .before .before .if1 .left)) (c .before .before .before .before .before .before .before .before .before .before .before .before .before .before .before .before .before .before .session-of .ensures) (c .before .before .before .before .before .before .before .before .before .before .before .before .poll .ensures) (c .poll-told .ensures)
 
 pub bizhgemu-poll-spec : {M : Type 1} → statement M
 bizhgemu-poll-spec =
@@ -60,7 +60,7 @@ bizhgemu-poll-spec =
     returns
     session-of-requires
     poll-requires
-    poll-requires-2
+    poll-told-requires
     same-length
     same-length-2
     same-length-3

@@ -28,8 +28,8 @@ session-of-requires c κs = search needs
 poll-nack-requires : tie.Need-poll-nack-requires
 poll-nack-requires c κs = search needs
 
-nack-requires : tie.Need-nack-requires
-nack-requires c κs = search needs
+nack-told-requires : tie.Need-nack-told-requires
+nack-told-requires c κs = search needs
 
 same-length : tie.Need-same-length
 same-length c = search needs
@@ -49,7 +49,7 @@ same-length-5 c = search needs
 returns-2 : tie.Need-returns-2
 returns-2 c =
     let a = c .before .before .before .before .before .before .before .before .before .before .before .before .before .before .before .before .before .before .before .before .before .before .before .before .before .before .args in
-    was-read Told.polledNack (Calls.pollNack (a .now) (a .out .now)) (a .session) (storage (a .entries .now) (a .payloads .now) (a .gaps .now) (a .remembered .now)) _ (sym (c .before .before .before .before .before .before .before .before .before .before .before .before .before .before .before .before .before .before .before .before .readable .ensures) ∙ not-false _ (c .before .before .before .before .before .before .before .before .before .before .before .before .before .before .before .before .before .before .before .if1 .left)) (c .before .before .before .before .before .before .before .before .before .before .before .before .before .before .before .before .before .before .session-of .ensures) (c .before .before .before .before .before .before .before .before .before .before .before .before .poll-nack .ensures) (c .nack .ensures)
+    was-read Told.polledNack (Calls.pollNack (a .now) (a .out .now)) (a .session) (storage (a .entries .now) (a .payloads .now) (a .gaps .now) (a .remembered .now)) _ (sym (c .before .before .before .before .before .before .before .before .before .before .before .before .before .before .before .before .before .before .before .before .readable .ensures) ∙ not-false _ (c .before .before .before .before .before .before .before .before .before .before .before .before .before .before .before .before .before .before .before .if1 .left)) (c .before .before .before .before .before .before .before .before .before .before .before .before .before .before .before .before .before .before .session-of .ensures) (c .before .before .before .before .before .before .before .before .before .before .before .before .poll-nack .ensures) (c .nack-told .ensures)
 
 pub bizhgemu-poll-nack-spec : {M : Type 1} → statement M
 bizhgemu-poll-nack-spec =
@@ -60,7 +60,7 @@ bizhgemu-poll-nack-spec =
     returns
     session-of-requires
     poll-nack-requires
-    nack-requires
+    nack-told-requires
     same-length
     same-length-2
     same-length-3

@@ -28,8 +28,8 @@ session-of-requires c κs = search needs
 push-requires : tie.Need-push-requires
 push-requires c κs = search needs
 
-media-requires : tie.Need-media-requires
-media-requires c κs = search needs
+media-told-requires : tie.Need-media-told-requires
+media-told-requires c κs = search needs
 
 same-length : tie.Need-same-length
 same-length c = search needs
@@ -46,7 +46,7 @@ same-length-4 c = search needs
 returns-2 : tie.Need-returns-2
 returns-2 c =
     let a = c .before .before .before .before .before .before .before .before .before .before .before .before .before .before .before .before .before .before .before .before .before .before .before .args in
-    was-read Told.pushed (Calls.media (a .now) (a .datagram .now)) (a .session) (storage (a .entries .now) (a .payloads .now) (a .gaps .now) (a .remembered .now)) _ (sym (c .before .before .before .before .before .before .before .before .before .before .before .before .before .before .before .before .before .readable .ensures) ∙ not-false _ (c .before .before .before .before .before .before .before .before .before .before .before .before .before .before .before .before .if1 .left)) (c .before .before .before .before .before .before .before .before .before .before .before .before .before .before .before .session-of .ensures) (c .before .before .before .before .before .before .before .before .before .before .push .ensures) (c .media .ensures)
+    was-read Told.pushed (Calls.media (a .now) (a .datagram .now)) (a .session) (storage (a .entries .now) (a .payloads .now) (a .gaps .now) (a .remembered .now)) _ (sym (c .before .before .before .before .before .before .before .before .before .before .before .before .before .before .before .before .before .readable .ensures) ∙ not-false _ (c .before .before .before .before .before .before .before .before .before .before .before .before .before .before .before .before .if1 .left)) (c .before .before .before .before .before .before .before .before .before .before .before .before .before .before .before .session-of .ensures) (c .before .before .before .before .before .before .before .before .before .before .push .ensures) (c .media-told .ensures)
 
 pub bizhgemu-push-spec : {M : Type 1} → statement M
 bizhgemu-push-spec =
@@ -57,7 +57,7 @@ bizhgemu-push-spec =
     returns
     session-of-requires
     push-requires
-    media-requires
+    media-told-requires
     same-length
     same-length-2
     same-length-3

@@ -28,8 +28,8 @@ session-of-requires c κs = search needs
 push-rtx-requires : tie.Need-push-rtx-requires
 push-rtx-requires c κs = search needs
 
-repair-requires : tie.Need-repair-requires
-repair-requires c κs = search needs
+repair-told-requires : tie.Need-repair-told-requires
+repair-told-requires c κs = search needs
 
 same-length : tie.Need-same-length
 same-length c = search needs
@@ -46,7 +46,7 @@ same-length-4 c = search needs
 returns-2 : tie.Need-returns-2
 returns-2 c =
     let a = c .before .before .before .before .before .before .before .before .before .before .before .before .before .before .before .before .before .before .before .before .before .before .before .args in
-    was-read Told.pushed (Calls.repair (a .now) (a .datagram .now)) (a .session) (storage (a .entries .now) (a .payloads .now) (a .gaps .now) (a .remembered .now)) _ (sym (c .before .before .before .before .before .before .before .before .before .before .before .before .before .before .before .before .before .readable .ensures) ∙ not-false _ (c .before .before .before .before .before .before .before .before .before .before .before .before .before .before .before .before .if1 .left)) (c .before .before .before .before .before .before .before .before .before .before .before .before .before .before .before .session-of .ensures) (c .before .before .before .before .before .before .before .before .before .before .push-rtx .ensures) (c .repair .ensures)
+    was-read Told.pushed (Calls.repair (a .now) (a .datagram .now)) (a .session) (storage (a .entries .now) (a .payloads .now) (a .gaps .now) (a .remembered .now)) _ (sym (c .before .before .before .before .before .before .before .before .before .before .before .before .before .before .before .before .before .readable .ensures) ∙ not-false _ (c .before .before .before .before .before .before .before .before .before .before .before .before .before .before .before .before .if1 .left)) (c .before .before .before .before .before .before .before .before .before .before .before .before .before .before .before .session-of .ensures) (c .before .before .before .before .before .before .before .before .before .before .push-rtx .ensures) (c .repair-told .ensures)
 
 pub bizhgemu-push-rtx-spec : {M : Type 1} → statement M
 bizhgemu-push-rtx-spec =
@@ -57,7 +57,7 @@ bizhgemu-push-rtx-spec =
     returns
     session-of-requires
     push-rtx-requires
-    repair-requires
+    repair-told-requires
     same-length
     same-length-2
     same-length-3

@@ -1,4 +1,6 @@
 -- `last_words` meets its contract: each arm is a line of the definition.
+use mathlib.Core.Path.{_≡_}
+use Rattle.model.specs.declared.LastReceived.the-variants.{None}
 use Rattle.ffi_words.specs.Words.{lastWords}
 use borrow.Author.Needs.{needs}
 use Rattle.ffi_words.proofs.last_words.Statement.{statement}
@@ -12,7 +14,9 @@ enum-known-last c = search needs
 
 returns : tie.Need-returns
 unfolding lastWords
-returns c = cc
+returns c =
+    let e : c .before .before .args .q .last ≡ None = c .enum-told .given .1 in
+    rw e
 
 returns-2 : tie.Need-returns-2
 unfolding lastWords

@@ -1,11 +1,11 @@
--- `repair` meets its contract: each arm is an answer of the definition.
+-- `repair_told` meets its contract: each arm is an answer of the definition.
 use mathlib.Core.Path.{_≡_}
 use Rattle.queue.specs.declared.RepairAnswer.the-variants.{Recovered, Redundant, TooLate, Refused}
 use Rattle.ffi_words.specs.Told.{pushed, sessionAfter, fateNumber, refusalIn, numberIn, optWords}
 use Rattle.queue.specs.Answers.{repairAnswer}
 use borrow.Author.Needs.{needs}
-use Rattle.ffi_words.proofs.answers.repair.Statement.{statement}
-use Rattle.ffi_words.proofs.answers.repair.Tie as tie
+use Rattle.ffi_words.proofs.answers.repair_told.Statement.{statement}
+use Rattle.ffi_words.proofs.answers.repair_told.Tie as tie
 
 enum-told : tie.Need-enum-told
 enum-told c = search needs
@@ -47,8 +47,8 @@ returns-4 : tie.Need-returns-4
 unfolding pushed sessionAfter fateNumber refusalIn numberIn optWords repairAnswer
 returns-4 c = let e : c .before .before .before .before .args .answer ≡ Refused (c .before .before .answer .given .0 .0) = c .before .before .answer .given .1 in rw e (c .push-refused .ensures)
 
-pub repair-spec : {M : Type 1} → statement M
-repair-spec =
+pub repair-told-spec : {M : Type 1} → statement M
+repair-told-spec =
     tie.close
     (tie.spec
     enum-told

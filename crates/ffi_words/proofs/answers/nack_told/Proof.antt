@@ -1,11 +1,11 @@
--- `nack` meets its contract: each arm is an answer of the definition.
+-- `nack_told` meets its contract: each arm is an answer of the definition.
 use mathlib.Core.Path.{_≡_}
 use Rattle.queue.specs.declared.NackAnswer.the-variants.{Nothing, Numbers, Refused}
 use Rattle.ffi_words.specs.Told.{polledNack, sessionAfter, refusalIn, numberIn, optWords}
 use Rattle.queue.specs.Answers.{nackAnswer}
 use borrow.Author.Needs.{needs}
-use Rattle.ffi_words.proofs.answers.nack.Statement.{statement}
-use Rattle.ffi_words.proofs.answers.nack.Tie as tie
+use Rattle.ffi_words.proofs.answers.nack_told.Statement.{statement}
+use Rattle.ffi_words.proofs.answers.nack_told.Tie as tie
 
 enum-told : tie.Need-enum-told
 enum-told c = search needs
@@ -37,8 +37,8 @@ returns-3 : tie.Need-returns-3
 unfolding polledNack sessionAfter refusalIn numberIn optWords nackAnswer
 returns-3 c = let e : c .before .before .before .before .args .answer ≡ Refused (c .before .before .answer2 .given .0 .0) = c .before .before .answer2 .given .1 in rw e (c .nack-refused .ensures)
 
-pub nack-spec : {M : Type 1} → statement M
-nack-spec =
+pub nack-told-spec : {M : Type 1} → statement M
+nack-told-spec =
     tie.close
     (tie.spec
     enum-told

@@ -1,11 +1,11 @@
--- `poll` meets its contract: each arm is an answer of the definition.
+-- `poll_told` meets its contract: each arm is an answer of the definition.
 use mathlib.Core.Path.{_≡_, _∙_}
 use Rattle.queue.specs.declared.PollAnswer.the-variants.{Nothing, Packet, Refused}
 use Rattle.ffi_words.specs.Told.{polled, sessionAfter, packetIn, refusalIn, numberIn, optWords}
 use Rattle.queue.specs.Answers.{pollAnswer}
 use borrow.Author.Needs.{needs}
-use Rattle.ffi_words.proofs.answers.poll.Statement.{statement}
-use Rattle.ffi_words.proofs.answers.poll.Tie as tie
+use Rattle.ffi_words.proofs.answers.poll_told.Statement.{statement}
+use Rattle.ffi_words.proofs.answers.poll_told.Tie as tie
 
 enum-told : tie.Need-enum-told
 enum-told c = search needs
@@ -43,8 +43,8 @@ returns-3 : tie.Need-returns-3
 unfolding polled sessionAfter packetIn refusalIn numberIn optWords pollAnswer
 returns-3 c = let e : c .before .before .before .before .args .answer ≡ Refused (c .before .before .answer2 .given .0 .0) = c .before .before .answer2 .given .1 in rw e (c .poll-refused .ensures)
 
-pub poll-spec : {M : Type 1} → statement M
-poll-spec =
+pub poll-told-spec : {M : Type 1} → statement M
+poll-told-spec =
     tie.close
     (tie.spec
     enum-told

@@ -1,11 +1,11 @@
--- `media` meets its contract: each arm is an answer of the definition.
+-- `media_told` meets its contract: each arm is an answer of the definition.
 use mathlib.Core.Path.{_≡_}
 use Rattle.queue.specs.declared.MediaAnswer.the-variants.{Queued, Dropped, Refused}
 use Rattle.ffi_words.specs.Told.{pushed, sessionAfter, refusalIn, numberIn, optWords}
 use Rattle.queue.specs.Answers.{mediaAnswer}
 use borrow.Author.Needs.{needs}
-use Rattle.ffi_words.proofs.answers.media.Statement.{statement}
-use Rattle.ffi_words.proofs.answers.media.Tie as tie
+use Rattle.ffi_words.proofs.answers.media_told.Statement.{statement}
+use Rattle.ffi_words.proofs.answers.media_told.Tie as tie
 
 enum-told : tie.Need-enum-told
 enum-told c = search needs
@@ -37,8 +37,8 @@ returns-3 : tie.Need-returns-3
 unfolding pushed sessionAfter refusalIn numberIn optWords mediaAnswer
 returns-3 c = let e : c .before .before .before .before .args .answer ≡ Refused (c .before .before .answer .given .0 .0) = c .before .before .answer .given .1 in rw e (c .push-refused .ensures)
 
-pub media-spec : {M : Type 1} → statement M
-media-spec =
+pub media-told-spec : {M : Type 1} → statement M
+media-told-spec =
     tie.close
     (tie.spec
     enum-told
