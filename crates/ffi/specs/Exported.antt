@@ -1,0 +1,90 @@
+-- The exported functions: `did` and `opened` of `model`, on words. Words that cannot be read are refused, and nothing changes:
+-- under 1 at the opening, under 16 in a call.
+use mathlib.Core.Path.{_≡_}
+use mathlib.Core.Bool.{true, _&&_, cond}
+use mathlib.Core.List.{List, []}
+use Prim.Native.Nat.{ℕ, _*_}
+use Rattle.refusals.specs.Refusals.{SETTINGS, SESSION}
+use Rattle.jitter.specs.Interarrival.{jitterGet}
+use Rattle.config.specs.Valid.{within}
+use Rattle.model.specs.declared.Queue.{Queue}
+use Rattle.model.specs.Rules.{MAX-LOST-NACKED}
+use Rattle.model.specs.Valid.{queueSound}
+use Rattle.model.specs.Records.{newState}
+use Rattle.model.specs.Storage.{Storage, Stored, write, ENTRY-WORDS, PAYLOAD-BYTES, GAP-WORDS, REMEMBERED-WORDS}
+use Rattle.model.specs.Calls as Calls
+use Rattle.model.specs.Calls.{Answer, Call, outputOf}
+use Rattle.model.specs.Table.{configValid, openingRefusal}
+use Rattle.model.specs.Did as Did
+use Rattle.model.specs.Did.{Done, did, opened}
+use Rattle.ffi_words.specs.declared.ConfigWords.{ConfigWords}
+use Rattle.ffi_words.specs.declared.SessionWords.{SessionWords}
+use Rattle.ffi_words.specs.declared.answers.Opened.{Opened}
+use Rattle.ffi_words.specs.declared.answers.Figures.{Figures}
+use Rattle.ffi_words.specs.declared.answers.Lengths.{Lengths}
+use Rattle.ffi_words.specs.Words.{configReadable, readable, configOf, queueOf, sessionOf}
+use Rattle.ffi_words.specs.Told.{back, openTold, noFigures}
+
+-- what comes back: the answer in words, the lent storage and the lent output
+pub record Given (A : Type 0) : Type 0 where
+  pub value : A
+  pub storage : Storage
+  pub output : List ℕ
+
+module _ {A : Type 0} (tell : Answer → SessionWords → A) where
+  unfoldable pub unread : Call → SessionWords → Storage → Given A
+  unread c w t = record { value = tell (Calls.refused SESSION) w; storage = t; output = outputOf c }
+
+  unfoldable pub told : SessionWords → Done → Given A
+  told w d = record { value = back tell (d .answer) w (d .stored .session); storage = d .stored .storage; output = d .output }
+
+  unfoldable pub called : Call → SessionWords → Storage → Given A
+  called c w t = cond (readable w) (told w (did c (record { session = sessionOf w; storage = t }))) (unread c w t)
+
+-- The call c on these words and this storage gave r and left the storage and the output.
+abbrev pub Gives : {A : Type 0} → (Answer → SessionWords → A) → Call → SessionWords → Storage → A → Storage → List ℕ → Type 0
+Gives tell c w before r after output = called tell c w before ≡ record { value = r; storage = after; output = output }
+
+-- a call that only reads leaves the words with the caller
+abbrev pub alone : {A : Type 0} → (Answer → A) → Answer → SessionWords → A
+alone tell a w = tell a
+
+unfoldable pub openedBy : Did.Opened → Given Opened
+openedBy o = record { value = openTold (o .answer); storage = o .storage; output = [] }
+
+unfoldable pub openedWords : ConfigWords → Storage → Given Opened
+openedWords c t = openedBy (cond (configReadable c) (opened (configOf c) t) (record { answer = Did.refused SETTINGS; storage = t }))
+
+-- ---- call after call
+
+-- the words that come back
+abbrev pub words : Answer → SessionWords → SessionWords
+words a w = w
+
+-- Call after call on words is a run of the queue's calls: what comes back stands for the session that is left, refused or not.
+pub record Follows : Type 0 where
+  pub at-opening : (c : ConfigWords) (t : Storage) → configReadable c ≡ true → openingRefusal (configOf c) t ≡ 0 → let g = openedWords c t in (readable (g .value .session) ≡ true) × (record { session = sessionOf (g .value .session); storage = g .storage } ≡ write (newState (configOf c)))
+  pub at-call : (c : Call) (w : SessionWords) (t : Storage) → readable w ≡ true → let g = called words c w t in (readable (g .value) ≡ true) × (record { session = sessionOf (g .value); storage = g .storage } ≡ did c (record { session = sessionOf w; storage = t }) .stored)
+
+-- ---- two readings without storage
+
+unfoldable pub figuresOf : Queue → Figures
+figuresOf q =
+    record { refusal = 0; «packets_received» = q .counters .received; «packets_dropped» = q .counters .dropped; «packets_lost» = q .counters .lost; «bytes_received» = q .counters .bytes; jitter = jitterGet (q .jitter); loss = q .loss .loss }
+
+-- 16, but for the storage
+unfoldable pub queueFigures : Queue → Figures
+queueFigures q = cond (configValid (q .config) && queueSound q) (figuresOf q) (noFigures SESSION)
+
+unfoldable pub figures : SessionWords → Figures
+figures w = cond (readable w) (queueFigures (queueOf w)) (noFigures SESSION)
+
+abbrev pub noLengths : Lengths
+noLengths = record { refusal = SETTINGS; entries = 0; payloads = 0; gaps = 0; remembered = 0 }
+
+-- the lengths that 16 asks for, by D and G
+unfoldable pub lengths : ℕ → ℕ → Lengths
+lengths entries gaps =
+    cond (within 1 1024 entries && within 999 4096 gaps)
+    (record { refusal = 0; entries = ENTRY-WORDS * (2 * entries); payloads = PAYLOAD-BYTES * (2 * entries); gaps = GAP-WORDS * gaps; remembered = REMEMBERED-WORDS * MAX-LOST-NACKED })
+    noLengths

@@ -1,0 +1,300 @@
+// The library for C and Rust: the opening, the eight calls and two readings, on words that the caller keeps and storage that it lends.
+// No function asks anything of its caller but live slices of the lengths passed, none of which overlaps another that is written.
+ghost use mathlib.Core.Path.{_≡_};
+ghost use mathlib.Core.List.{[]};
+ghost use Rattle.model.specs.Calls as Calls;
+ghost use Rattle.queue.specs.Answers.{storage};
+ghost use Rattle.ffi_words.specs.Told as Told;
+ghost use Rattle.ffi.specs.Exported as Exported;
+ghost use Rattle.ffi.specs.Exported.{Follows, Gives, alone, openedWords};
+use ffi_words::ConfigWords;
+use ffi_words::SessionWords;
+use ffi_words::answers;
+use ffi_words::answers::Figures;
+use ffi_words::answers::Highest;
+use ffi_words::answers::Lengths;
+use ffi_words::answers::Opened;
+use ffi_words::answers::Polled;
+use ffi_words::answers::PolledNack;
+use ffi_words::answers::Pushed;
+use ffi_words::answers::RtxStats;
+use ffi_words::answers::Timeout;
+use model::Queue;
+use queue::nack;
+use queue::open;
+use queue::poll;
+use queue::push;
+use queue::reading;
+use queue::rtx;
+
+// A refused opening gives a session of zeros.
+#[no_mangle]
+pub extern "C" fn bizhgemu_open(
+    config: ConfigWords,
+    entries: &mut [u64],
+    payloads: &mut [u8],
+    gaps: &mut [u64],
+    remembered: &mut [u64],
+) -> Opened
+    ensures { λ r. ⌜ openedWords config (storage (entries .entry .now) (payloads .entry .now) (gaps .entry .now) (remembered .entry .now)) ≡ record { value = r; storage = storage (entries .exit .now) (payloads .exit .now) (gaps .exit .now) (remembered .exit .now); output = [] } ⌝ }
+{
+    if !ffi_words::config_readable(config) {
+        return answers::open_refused(refusals::SETTINGS);
+    }
+    let opening = open::open(
+        ffi_words::config_of(config),
+        entries,
+        payloads,
+        gaps,
+        remembered,
+    );
+    answers::open_told(opening)
+}
+
+// In this and each later call: words that cannot be read are refused under 16, and a refused call gives the words back as they came.
+#[no_mangle]
+pub extern "C" fn bizhgemu_push(
+    session: SessionWords,
+    entries: &mut [u64],
+    payloads: &mut [u8],
+    gaps: &mut [u64],
+    remembered: &mut [u64],
+    now: u64,
+    datagram: &[u8],
+) -> Pushed
+    ensures { λ r. ⌜ Gives Told.pushed (Calls.media now (datagram .entry .now)) session (storage (entries .entry .now) (payloads .entry .now) (gaps .entry .now) (remembered .entry .now)) r (storage (entries .exit .now) (payloads .exit .now) (gaps .exit .now) (remembered .exit .now)) [] ⌝ }
+{
+    if !ffi_words::readable(session) {
+        return answers::push_refused(refusals::SESSION, session);
+    }
+    let read = ffi_words::session_of(session);
+    let done = push::push(read, entries, payloads, gaps, remembered, now, datagram);
+    let answer = done.answer;
+    let left = done.session;
+    answers::media_told(answer, session, left)
+}
+
+#[no_mangle]
+pub extern "C" fn bizhgemu_push_rtx(
+    session: SessionWords,
+    entries: &mut [u64],
+    payloads: &mut [u8],
+    gaps: &mut [u64],
+    remembered: &mut [u64],
+    now: u64,
+    datagram: &[u8],
+) -> Pushed
+    ensures { λ r. ⌜ Gives Told.pushed (Calls.repair now (datagram .entry .now)) session (storage (entries .entry .now) (payloads .entry .now) (gaps .entry .now) (remembered .entry .now)) r (storage (entries .exit .now) (payloads .exit .now) (gaps .exit .now) (remembered .exit .now)) [] ⌝ }
+{
+    if !ffi_words::readable(session) {
+        return answers::push_refused(refusals::SESSION, session);
+    }
+    let read = ffi_words::session_of(session);
+    let done = rtx::push_rtx(read, entries, payloads, gaps, remembered, now, datagram);
+    let answer = done.answer;
+    let left = done.session;
+    answers::repair_told(answer, session, left)
+}
+
+#[no_mangle]
+pub extern "C" fn bizhgemu_poll(
+    session: SessionWords,
+    entries: &mut [u64],
+    payloads: &mut [u8],
+    gaps: &mut [u64],
+    remembered: &mut [u64],
+    now: u64,
+    out: &mut [u8],
+) -> Polled
+    ensures { λ r. ⌜ Gives Told.polled (Calls.poll now (out .entry .now)) session (storage (entries .entry .now) (payloads .entry .now) (gaps .entry .now) (remembered .entry .now)) r (storage (entries .exit .now) (payloads .exit .now) (gaps .exit .now) (remembered .exit .now)) (out .exit .now) ⌝ }
+{
+    if !ffi_words::readable(session) {
+        return answers::poll_refused(refusals::SESSION, session);
+    }
+    let read = ffi_words::session_of(session);
+    let done = poll::poll(read, entries, payloads, gaps, remembered, now, out);
+    let answer = done.answer;
+    let left = done.session;
+    answers::poll_told(answer, session, left)
+}
+
+#[no_mangle]
+pub extern "C" fn bizhgemu_poll_nack(
+    session: SessionWords,
+    entries: &mut [u64],
+    payloads: &mut [u8],
+    gaps: &mut [u64],
+    remembered: &mut [u64],
+    now: u64,
+    out: &mut [u16],
+) -> PolledNack
+    ensures { λ r. ⌜ Gives Told.polledNack (Calls.pollNack now (out .entry .now)) session (storage (entries .entry .now) (payloads .entry .now) (gaps .entry .now) (remembered .entry .now)) r (storage (entries .exit .now) (payloads .exit .now) (gaps .exit .now) (remembered .exit .now)) (out .exit .now) ⌝ }
+{
+    if !ffi_words::readable(session) {
+        return answers::nack_refused(refusals::SESSION, session);
+    }
+    let read = ffi_words::session_of(session);
+    let done = nack::poll_nack(read, entries, payloads, gaps, remembered, now, out);
+    let answer = done.answer;
+    let left = done.session;
+    answers::nack_told(answer, session, left)
+}
+
+#[no_mangle]
+pub extern "C" fn bizhgemu_timeout_receive(
+    session: SessionWords,
+    entries: &mut [u64],
+    payloads: &mut [u8],
+    gaps: &mut [u64],
+    remembered: &mut [u64],
+    now: u64,
+) -> Timeout
+    ensures { λ r. ⌜ Gives (alone Told.timeoutTold) (Calls.timeoutReceive now) session (storage (entries .entry .now) (payloads .entry .now) (gaps .entry .now) (remembered .entry .now)) r (storage (entries .exit .now) (payloads .exit .now) (gaps .exit .now) (remembered .exit .now)) [] ⌝ }
+{
+    if !ffi_words::readable(session) {
+        return answers::timeout_refused(refusals::SESSION);
+    }
+    let read = ffi_words::session_of(session);
+    let answer = reading::timeout_receive(read, entries, payloads, gaps, remembered, now);
+    answers::timeout_told(answer)
+}
+
+#[no_mangle]
+pub extern "C" fn bizhgemu_timeout_nack(
+    session: SessionWords,
+    entries: &mut [u64],
+    payloads: &mut [u8],
+    gaps: &mut [u64],
+    remembered: &mut [u64],
+    now: u64,
+) -> Timeout
+    ensures { λ r. ⌜ Gives (alone Told.timeoutTold) (Calls.timeoutNack now) session (storage (entries .entry .now) (payloads .entry .now) (gaps .entry .now) (remembered .entry .now)) r (storage (entries .exit .now) (payloads .exit .now) (gaps .exit .now) (remembered .exit .now)) [] ⌝ }
+{
+    if !ffi_words::readable(session) {
+        return answers::timeout_refused(refusals::SESSION);
+    }
+    let read = ffi_words::session_of(session);
+    let answer = reading::timeout_nack(read, entries, payloads, gaps, remembered, now);
+    answers::timeout_told(answer)
+}
+
+#[no_mangle]
+pub extern "C" fn bizhgemu_rtx_stats(
+    session: SessionWords,
+    entries: &mut [u64],
+    payloads: &mut [u8],
+    gaps: &mut [u64],
+    remembered: &mut [u64],
+) -> RtxStats
+    ensures { λ r. ⌜ Gives (alone Told.statsTold) Calls.rtxStats session (storage (entries .entry .now) (payloads .entry .now) (gaps .entry .now) (remembered .entry .now)) r (storage (entries .exit .now) (payloads .exit .now) (gaps .exit .now) (remembered .exit .now)) [] ⌝ }
+{
+    if !ffi_words::readable(session) {
+        return answers::stats_refused(refusals::SESSION);
+    }
+    let read = ffi_words::session_of(session);
+    let answer = reading::rtx_stats(read, entries, payloads, gaps, remembered);
+    answers::stats_told(answer)
+}
+
+#[no_mangle]
+pub extern "C" fn bizhgemu_highest_sequence_number_received(
+    session: SessionWords,
+    entries: &mut [u64],
+    payloads: &mut [u8],
+    gaps: &mut [u64],
+    remembered: &mut [u64],
+) -> Highest
+    ensures { λ r. ⌜ Gives (alone Told.highestTold) Calls.highestReceived session (storage (entries .entry .now) (payloads .entry .now) (gaps .entry .now) (remembered .entry .now)) r (storage (entries .exit .now) (payloads .exit .now) (gaps .exit .now) (remembered .exit .now)) [] ⌝ }
+{
+    if !ffi_words::readable(session) {
+        return answers::highest_refused(refusals::SESSION);
+    }
+    let read = ffi_words::session_of(session);
+    let answer = reading::highest_sequence_number_received(
+        read,
+        entries,
+        payloads,
+        gaps,
+        remembered,
+    );
+    answers::highest_told(answer)
+}
+
+fn figures_told(q: Queue) -> Figures
+    ensures { λ r. ⌜ r ≡ Exported.queueFigures q ⌝ }
+{
+    let config = q.config;
+    if !session::check::config_valid(config) {
+        return answers::figures_refused(refusals::SESSION);
+    }
+    if !session::check::queue_sound(q) {
+        return answers::figures_refused(refusals::SESSION);
+    }
+    let counters = q.counters;
+    let jitter = q.jitter;
+    let loss = q.loss;
+    Figures {
+        refusal: 0,
+        packets_received: counters.received,
+        packets_dropped: counters.dropped,
+        packets_lost: counters.lost,
+        bytes_received: counters.bytes,
+        jitter: jitter.get(),
+        loss: loss.get(),
+    }
+}
+
+// The inbound stream; refused under 16 where the settings or the session's own records do not pass it.
+#[no_mangle]
+pub extern "C" fn bizhgemu_figures(session: SessionWords) -> Figures
+    ensures { λ r. ⌜ r ≡ Exported.figures session ⌝ }
+{
+    if !ffi_words::readable(session) {
+        return answers::figures_refused(refusals::SESSION);
+    }
+    figures_told(ffi_words::queue_of(session))
+}
+
+fn no_lengths() -> Lengths
+    ensures { λ r. ⌜ r ≡ Exported.noLengths ⌝ }
+{
+    Lengths {
+        refusal: refusals::SETTINGS,
+        entries: 0,
+        payloads: 0,
+        gaps: 0,
+        remembered: 0,
+    }
+}
+
+// How long the lent slices are to be, by D and G.
+#[no_mangle]
+pub extern "C" fn bizhgemu_lengths(max_entries: usize, max_gaps: usize) -> Lengths
+    ensures { λ r. ⌜ r ≡ Exported.lengths «max_entries» «max_gaps» ⌝ }
+{
+    if max_entries < 1 {
+        return no_lengths();
+    }
+    if 1024 < max_entries {
+        return no_lengths();
+    }
+    if max_gaps < 999 {
+        return no_lengths();
+    }
+    if 4096 < max_gaps {
+        return no_lengths();
+    }
+    let places = 2 * max_entries;
+    Lengths {
+        refusal: 0,
+        entries: 4 * places,
+        payloads: 320 * places,
+        gaps: 4 * max_gaps,
+        remembered: 2048,
+    }
+}
+
+// What comes back from one call, the next one takes up.
+pub fn calls_follow()
+    ensures { λ r. ⌜ Follows ⌝ }
+{}

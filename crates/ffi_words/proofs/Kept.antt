@@ -1,0 +1,86 @@
+-- What is written as words is read again as it was.
+use mathlib.Core.Path.{_≡_, refl}
+use mathlib.Core.Bool.{Bool, true, false, _&&_}
+use Prim.Native.Nat.{ℕ}
+use lib.Dec.{eqb, leb}
+use Rattle.rtx_state.specs.declared.OptRtt.{OptRtt}
+use Rattle.rtx_state.specs.declared.OptRtt.the-variants as OptRtt
+use Rattle.config.specs.declared.RtpInboundQueueMode.{RtpInboundQueueMode}
+use Rattle.config.specs.declared.RtpInboundQueueMode.the-variants.{Passthrough, SortedQueue}
+use Rattle.model.specs.declared.LastReceived.{LastReceived}
+use Rattle.model.specs.declared.LastReceived.the-variants as LastReceived
+use Rattle.model.specs.declared.LastReturned.{LastReturned}
+use Rattle.model.specs.declared.LastReturned.the-variants as LastReturned
+use Rattle.model.specs.declared.Config.{Config}
+use Rattle.model.specs.declared.Session.{Session}
+use Rattle.ffi_words.specs.Words.{configReadable, readable, modeOf, configOf, lastOf, returnedOf, rttOf, queueOf, sessionOf, flag, modeWord, configWords, lastWords, returnedWords, rttWords, wordsOf, Kept}
+
+-- ---- each part
+
+mode-kept : (m : RtpInboundQueueMode) → modeOf (modeWord m) ≡ m
+unfolding modeOf modeWord
+mode-kept Passthrough = refl
+mode-kept SortedQueue = refl
+
+flag-kept : (b : Bool) → eqb (flag b) 1 ≡ b
+unfolding flag
+flag-kept false = refl
+flag-kept true = refl
+
+last-kept : (l : LastReceived) → lastOf (lastWords l) ≡ l
+unfolding lastOf lastWords
+last-kept LastReceived.None = refl
+last-kept (LastReceived.Some r) = refl
+
+returned-kept : (l : LastReturned) → returnedOf (returnedWords l) ≡ l
+unfolding returnedOf returnedWords
+returned-kept LastReturned.None = refl
+returned-kept (LastReturned.Some n) = refl
+
+rtt-kept : (r : OptRtt) → rttOf (rttWords r) ≡ r
+unfolding rttOf rttWords
+rtt-kept OptRtt.None = refl
+rtt-kept (OptRtt.Some e) = refl
+
+config-kept : (c : Config) → configOf (configWords c) ≡ c
+unfolding configOf configWords
+config-kept c = rw (mode-kept (c .settings .mode), flag-kept (c .senders .«has_rtx»))
+
+-- ---- each flag
+
+mode-reads : (m : RtpInboundQueueMode) → leb (modeWord m) 1 ≡ true
+unfolding modeWord
+mode-reads Passthrough = refl
+mode-reads SortedQueue = refl
+
+flag-reads : (b : Bool) → leb (flag b) 1 ≡ true
+unfolding flag
+flag-reads false = refl
+flag-reads true = refl
+
+last-reads : (l : LastReceived) → leb (lastWords l .has) 1 ≡ true
+unfolding lastWords
+last-reads LastReceived.None = refl
+last-reads (LastReceived.Some r) = refl
+
+returned-reads : (l : LastReturned) → leb (returnedWords l .has) 1 ≡ true
+unfolding returnedWords
+returned-reads LastReturned.None = refl
+returned-reads (LastReturned.Some n) = refl
+
+rtt-reads : (r : OptRtt) → leb (rttWords r .has) 1 ≡ true
+unfolding rttWords
+rtt-reads OptRtt.None = refl
+rtt-reads (OptRtt.Some e) = refl
+
+config-reads : (c : Config) → configReadable (configWords c) ≡ true
+unfolding configReadable configWords
+config-reads c = rw (mode-reads (c .settings .mode), flag-reads (c .senders .«has_rtx»))
+
+pub words-kept : Kept
+unfolding readable sessionOf queueOf wordsOf
+words-kept =
+    record {
+      stays-readable = λ s. rw (config-reads (s .queue .config), last-reads (s .queue .last), returned-reads (s .queue .returned), rtt-reads (s .queue .rtx .rtt));
+      same = λ s. rw (config-kept (s .queue .config), last-kept (s .queue .last), returned-kept (s .queue .returned), rtt-kept (s .queue .rtx .rtt));
+    }

@@ -1,0 +1,13 @@
+-- `push_done` meets its contract: the words of the session that is left.
+use borrow.Author.Needs.{needs}
+use Rattle.ffi_words.proofs.answers.push_done.Statement.{statement}
+use Rattle.ffi_words.proofs.answers.push_done.Tie as tie
+
+words-of-requires : tie.Need-words-of-requires
+words-of-requires c κs = search needs
+
+returns : tie.Need-returns
+returns c = cc
+
+pub push-done-spec : {M : Type 1} → statement M
+push-done-spec = tie.close (tie.spec words-of-requires returns)

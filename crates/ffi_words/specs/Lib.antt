@@ -1,0 +1,3 @@
+-- The words that cross the boundary.
+pub mod Words
+pub mod Told

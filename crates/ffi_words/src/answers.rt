@@ -1,0 +1,410 @@
+// What the exported calls answer. `refusal` is 01's number, or 0; what is not told (refused, or its flag is 0) is 0.
+ghost use mathlib.Core.Path.{_≡_};
+ghost use mathlib.Core.List.{[], _∷_};
+ghost use Rattle.model.specs.Calls as Calls;
+ghost use Rattle.model.specs.Did as Did;
+ghost use Rattle.queue.specs.Answers.{openingAnswer, mediaAnswer, repairAnswer, packetOf, pollAnswer, nackAnswer, timeoutAnswer, statsAnswer, highestAnswer};
+ghost use Rattle.ffi_words.specs.Words.{flag, wordsOf};
+ghost use Rattle.ffi_words.specs.Told.{optWords, packetWords, statsWords, back, pushed, polled, polledNack, timeoutTold, statsTold, highestTold, openTold, noFigures};
+use super::SessionWords;
+use model::Session;
+use queue::HandedOut;
+use queue::HighestAnswer;
+use queue::MediaAnswer;
+use queue::NackAnswer;
+use queue::Opening;
+use queue::PollAnswer;
+use queue::RepairAnswer;
+use queue::StatsAnswer;
+use queue::TimeoutAnswer;
+use rtp::opt::Opt;
+use stats::OptRtxStats;
+
+#[repr(C)]
+pub struct Opened {
+    pub refusal: u64,
+    pub session: SessionWords,
+}
+
+// Of media: 0 queued, 1 dropped. Of a repair: 0 recovered, 1 redundant, 2 too late.
+#[repr(C)]
+pub struct Pushed {
+    pub refusal: u64,
+    pub answer: u64,
+    pub session: SessionWords,
+}
+
+// `size` bytes of the output are the payload; a repair has no `received_at`.
+#[repr(C)]
+pub struct Packet {
+    pub has_received_at: u64,
+    pub received_at: u64,
+    pub delay: u64,
+    pub size: usize,
+    pub timestamp: u32,
+    pub ssrc: u32,
+    pub sequence_number: u16,
+    pub pt: u8,
+    pub marker: u8,
+}
+
+#[repr(C)]
+pub struct Polled {
+    pub refusal: u64,
+    pub has_packet: u64,
+    pub packet: Packet,
+    pub session: SessionWords,
+}
+
+// How many numbers stand in the output: 0 where none is due.
+#[repr(C)]
+pub struct PolledNack {
+    pub refusal: u64,
+    pub count: usize,
+    pub session: SessionWords,
+}
+
+// Nanoseconds.
+#[repr(C)]
+pub struct Timeout {
+    pub refusal: u64,
+    pub has_timeout: u64,
+    pub timeout: u64,
+}
+
+#[repr(C)]
+pub struct RtxStats {
+    pub refusal: u64,
+    pub has_stats: u64,
+    pub packets_received_in_time: u64,
+    pub packets_received_too_late: u64,
+    pub packets_received_redundant: u64,
+    pub bytes_received: u64,
+    pub has_rtt: u64,
+    pub rtt: u64,
+}
+
+#[repr(C)]
+pub struct Highest {
+    pub refusal: u64,
+    pub has_number: u64,
+    pub number: u64,
+}
+
+// The inbound stream; the jitter in nanoseconds.
+#[repr(C)]
+pub struct Figures {
+    pub refusal: u64,
+    pub packets_received: u64,
+    pub packets_dropped: u64,
+    pub packets_lost: u64,
+    pub bytes_received: u64,
+    pub jitter: u64,
+    pub loss: f32,
+}
+
+// Elements of the lent slices.
+#[repr(C)]
+pub struct Lengths {
+    pub refusal: u64,
+    pub entries: usize,
+    pub payloads: usize,
+    pub gaps: usize,
+    pub remembered: usize,
+}
+
+// A number that may be missing, as a flag and a value.
+pub struct OptWords {
+    pub has: u64,
+    pub value: u64,
+}
+
+pub fn opt_words(o: Opt) -> OptWords
+    ensures { λ r. ⌜ r ≡ optWords o ⌝ }
+{
+    match o {
+        Opt::None => OptWords { has: 0, value: 0 },
+        Opt::Some(x) => OptWords { has: 1, value: x },
+    }
+}
+
+pub fn no_packet() -> Packet
+    ensures { λ r. ⌜ r ≡ packetWords [] ⌝ }
+{
+    Packet {
+        has_received_at: 0,
+        received_at: 0,
+        delay: 0,
+        size: 0,
+        timestamp: 0,
+        ssrc: 0,
+        sequence_number: 0,
+        pt: 0,
+        marker: 0,
+    }
+}
+
+fn flag8(b: bool) -> u8
+    ensures { λ r. ⌜ r ≡ flag b ⌝ }
+{
+    if b { 1 } else { 0 }
+}
+
+pub fn packet_words(h: HandedOut) -> Packet
+    ensures { λ r. ⌜ r ≡ packetWords (packetOf h ∷ []) ⌝ }
+{
+    let received_at = h.received_at;
+    let arrival = opt_words(received_at);
+    Packet {
+        has_received_at: arrival.has,
+        received_at: arrival.value,
+        delay: h.delay,
+        size: h.size,
+        timestamp: h.timestamp.0,
+        ssrc: h.ssrc.0,
+        sequence_number: h.sequence_number.0,
+        pt: h.pt,
+        marker: flag8(h.marker),
+    }
+}
+
+// ---- an answer of the queue's, with the words that the session was given in and the session that is left
+
+pub fn open_refused(refusal: u64) -> Opened
+    ensures { λ r. ⌜ r ≡ openTold (Did.refused refusal) ⌝ }
+{
+    let session = super::no_session();
+    Opened { refusal, session }
+}
+
+pub fn open_told(opening: Opening) -> Opened
+    ensures { λ r. ⌜ r ≡ openTold (openingAnswer opening) ⌝ }
+{
+    match opening {
+        Opening::Session(s) => {
+            let session = super::words_of(s);
+            Opened {
+                refusal: 0,
+                session,
+            }
+        }
+        Opening::Refused(k) => open_refused(k),
+    }
+}
+
+pub fn push_refused(refusal: u64, given: SessionWords) -> Pushed
+    ensures { λ r. ⌜ r ≡ pushed (Calls.refused refusal) given ⌝ }
+{
+    Pushed {
+        refusal,
+        answer: 0,
+        session: given,
+    }
+}
+
+fn push_done(answer: u64, left: Session) -> Pushed
+    ensures { λ r. ⌜ r ≡ record { refusal = 0; answer = answer; session = wordsOf left } ⌝ }
+{
+    let session = super::words_of(left);
+    Pushed {
+        refusal: 0,
+        answer,
+        session,
+    }
+}
+
+pub fn media_told(answer: MediaAnswer, given: SessionWords, left: Session) -> Pushed
+    ensures { λ r. ⌜ r ≡ back pushed (mediaAnswer answer) given left ⌝ }
+{
+    match answer {
+        MediaAnswer::Queued => push_done(0, left),
+        MediaAnswer::Dropped => push_done(1, left),
+        MediaAnswer::Refused(k) => push_refused(k, given),
+    }
+}
+
+pub fn repair_told(answer: RepairAnswer, given: SessionWords, left: Session) -> Pushed
+    ensures { λ r. ⌜ r ≡ back pushed (repairAnswer answer) given left ⌝ }
+{
+    match answer {
+        RepairAnswer::Recovered => push_done(0, left),
+        RepairAnswer::Redundant => push_done(1, left),
+        RepairAnswer::TooLate => push_done(2, left),
+        RepairAnswer::Refused(k) => push_refused(k, given),
+    }
+}
+
+pub fn poll_refused(refusal: u64, given: SessionWords) -> Polled
+    ensures { λ r. ⌜ r ≡ polled (Calls.refused refusal) given ⌝ }
+{
+    let packet = no_packet();
+    Polled {
+        refusal,
+        has_packet: 0,
+        packet,
+        session: given,
+    }
+}
+
+fn poll_done(has_packet: u64, packet: Packet, left: Session) -> Polled
+    ensures { λ r. ⌜ r ≡ record { refusal = 0; «has_packet» = «has_packet»; packet = packet; session = wordsOf left } ⌝ }
+{
+    let session = super::words_of(left);
+    Polled {
+        refusal: 0,
+        has_packet,
+        packet,
+        session,
+    }
+}
+
+pub fn poll_told(answer: PollAnswer, given: SessionWords, left: Session) -> Polled
+    ensures { λ r. ⌜ r ≡ back polled (pollAnswer answer) given left ⌝ }
+{
+    match answer {
+        PollAnswer::Nothing => poll_done(0, no_packet(), left),
+        PollAnswer::Packet(h) => poll_done(1, packet_words(h), left),
+        PollAnswer::Refused(k) => poll_refused(k, given),
+    }
+}
+
+pub fn nack_refused(refusal: u64, given: SessionWords) -> PolledNack
+    ensures { λ r. ⌜ r ≡ polledNack (Calls.refused refusal) given ⌝ }
+{
+    PolledNack {
+        refusal,
+        count: 0,
+        session: given,
+    }
+}
+
+fn nack_done(count: usize, left: Session) -> PolledNack
+    ensures { λ r. ⌜ r ≡ record { refusal = 0; count = count; session = wordsOf left } ⌝ }
+{
+    let session = super::words_of(left);
+    PolledNack {
+        refusal: 0,
+        count,
+        session,
+    }
+}
+
+pub fn nack_told(answer: NackAnswer, given: SessionWords, left: Session) -> PolledNack
+    ensures { λ r. ⌜ r ≡ back polledNack (nackAnswer answer) given left ⌝ }
+{
+    match answer {
+        NackAnswer::Nothing => nack_done(0, left),
+        NackAnswer::Numbers(n) => nack_done(n, left),
+        NackAnswer::Refused(k) => nack_refused(k, given),
+    }
+}
+
+pub fn timeout_refused(refusal: u64) -> Timeout
+    ensures { λ r. ⌜ r ≡ timeoutTold (Calls.refused refusal) ⌝ }
+{
+    Timeout {
+        refusal,
+        has_timeout: 0,
+        timeout: 0,
+    }
+}
+
+pub fn timeout_told(answer: TimeoutAnswer) -> Timeout
+    ensures { λ r. ⌜ r ≡ timeoutTold (timeoutAnswer answer) ⌝ }
+{
+    match answer {
+        TimeoutAnswer::Timeout(t) => {
+            let words = opt_words(t);
+            Timeout {
+                refusal: 0,
+                has_timeout: words.has,
+                timeout: words.value,
+            }
+        }
+        TimeoutAnswer::Refused(k) => timeout_refused(k),
+    }
+}
+
+pub fn stats_refused(refusal: u64) -> RtxStats
+    ensures { λ r. ⌜ r ≡ statsTold (Calls.refused refusal) ⌝ }
+{
+    RtxStats {
+        refusal,
+        has_stats: 0,
+        packets_received_in_time: 0,
+        packets_received_too_late: 0,
+        packets_received_redundant: 0,
+        bytes_received: 0,
+        has_rtt: 0,
+        rtt: 0,
+    }
+}
+
+fn stats_words(stats: OptRtxStats) -> RtxStats
+    ensures { λ r. ⌜ r ≡ statsWords 0 stats ⌝ }
+{
+    match stats {
+        OptRtxStats::None => stats_refused(0),
+        OptRtxStats::Some(f) => {
+            let trip = f.rtt;
+            let words = opt_words(trip);
+            RtxStats {
+                refusal: 0,
+                has_stats: 1,
+                packets_received_in_time: f.packets_received_in_time,
+                packets_received_too_late: f.packets_received_too_late,
+                packets_received_redundant: f.packets_received_redundant,
+                bytes_received: f.bytes_received,
+                has_rtt: words.has,
+                rtt: words.value,
+            }
+        }
+    }
+}
+
+pub fn stats_told(answer: StatsAnswer) -> RtxStats
+    ensures { λ r. ⌜ r ≡ statsTold (statsAnswer answer) ⌝ }
+{
+    match answer {
+        StatsAnswer::Stats(stats) => stats_words(stats),
+        StatsAnswer::Refused(k) => stats_refused(k),
+    }
+}
+
+pub fn highest_refused(refusal: u64) -> Highest
+    ensures { λ r. ⌜ r ≡ highestTold (Calls.refused refusal) ⌝ }
+{
+    Highest {
+        refusal,
+        has_number: 0,
+        number: 0,
+    }
+}
+
+pub fn highest_told(answer: HighestAnswer) -> Highest
+    ensures { λ r. ⌜ r ≡ highestTold (highestAnswer answer) ⌝ }
+{
+    match answer {
+        HighestAnswer::None => highest_refused(0),
+        HighestAnswer::Number(n) => Highest {
+            refusal: 0,
+            has_number: 1,
+            number: n.0,
+        },
+        HighestAnswer::Refused(k) => highest_refused(k),
+    }
+}
+
+pub fn figures_refused(refusal: u64) -> Figures
+    ensures { λ r. ⌜ r ≡ noFigures refusal ⌝ }
+{
+    Figures {
+        refusal,
+        packets_received: 0,
+        packets_dropped: 0,
+        packets_lost: 0,
+        bytes_received: 0,
+        jitter: 0,
+        loss: 0.0,
+    }
+}

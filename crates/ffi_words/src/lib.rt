@@ -1,0 +1,437 @@
+// The session and its settings as they cross the boundary: plain numbers, no bool and no enum. A flag is a word, 0 or 1. Where the flag
+// of a record is 0, its values are not looked at, and are 0 in what comes back; settings beside `has_rtx` stay as they are.
+ghost use mathlib.Core.Path.{_≡_};
+ghost use Rattle.ffi_words.specs.Words as Words;
+ghost use Rattle.ffi_words.specs.Words.{Kept, flag};
+use config::RtpInboundQueueMode;
+use config::Senders;
+use config::Settings;
+use jitter::Jitter;
+use model::Config;
+use model::Counters;
+use model::LastReceived;
+use model::LastReturned;
+use model::Queue;
+use model::Received;
+use model::Session;
+use packet_loss::PacketLoss;
+use rtp::ExtendedRtpTimestamp;
+use rtp::ExtendedSequenceNumber;
+use rtp::Ssrc;
+use rtx_state::OptRtt;
+use rtx_state::RtxRtt;
+use rtx_state::RtxState;
+
+pub mod answers;
+
+// `mode` is 0 for Passthrough, 1 for SortedQueue.
+#[repr(C)]
+pub struct ConfigWords {
+    pub delay: u64,
+    pub initial_nack_delay: u64,
+    pub default_nack_resend_delay: u64,
+    pub nack_window: u64,
+    pub max_entries: usize,
+    pub max_gaps: usize,
+    pub clock_rate: u32,
+    pub max_nack_attempts: u32,
+    pub mode: u32,
+    pub has_rtx: u32,
+    pub ssrc: u32,
+    pub rtx_ssrc: u32,
+    pub pt: u8,
+    pub rtx_pt: u8,
+}
+
+#[repr(C)]
+pub struct SessionWords {
+    pub config: ConfigWords,
+    pub clock: u64,
+    pub has_last: u64,
+    pub last_instant: u64,
+    pub last_timestamp: u64,
+    pub last_number: u64,
+    pub has_returned: u64,
+    pub returned: u64,
+    pub has_rtt: u64,
+    pub srtt: u64,
+    pub variation: u64,
+    pub rtx_in_time: u64,
+    pub rtx_too_late: u64,
+    pub rtx_redundant: u64,
+    pub rtx_bytes: u64,
+    pub dropped: u64,
+    pub received: u64,
+    pub bytes: u64,
+    pub lost: u64,
+    pub jitter_clock_rate: f64,
+    pub jitter: f64,
+    pub entries: usize,
+    pub gaps: usize,
+    pub remembered: usize,
+    pub loss: f32,
+}
+
+// A record that may be missing, as a flag and its values.
+pub struct LastWords {
+    pub has: u64,
+    pub instant: u64,
+    pub timestamp: u64,
+    pub number: u64,
+}
+
+pub struct ReturnedWords {
+    pub has: u64,
+    pub number: u64,
+}
+
+pub struct RttWords {
+    pub has: u64,
+    pub srtt: u64,
+    pub variation: u64,
+}
+
+// ---- from words
+
+pub fn config_readable(c: ConfigWords) -> bool
+    ensures { λ r. ⌜ r ≡ Words.configReadable c ⌝ }
+{
+    (c.mode <= 1) & (c.has_rtx <= 1)
+}
+
+// Each flag is 0 or 1.
+pub fn readable(s: SessionWords) -> bool
+    ensures { λ r. ⌜ r ≡ Words.readable s ⌝ }
+{
+    let config = s.config;
+    config_readable(config) & (s.has_last <= 1) & (s.has_returned <= 1) & (s.has_rtt <= 1)
+}
+
+fn mode_of(mode: u32) -> RtpInboundQueueMode
+    ensures { λ r. ⌜ r ≡ Words.modeOf mode ⌝ }
+{
+    if mode == 0 {
+        RtpInboundQueueMode::Passthrough
+    } else {
+        RtpInboundQueueMode::SortedQueue
+    }
+}
+
+pub fn config_of(c: ConfigWords) -> Config
+    ensures { λ r. ⌜ r ≡ Words.configOf c ⌝ }
+{
+    let mode = mode_of(c.mode);
+    let settings = Settings {
+        mode,
+        clock_rate: c.clock_rate,
+        max_entries: c.max_entries,
+        max_gaps: c.max_gaps,
+        delay: c.delay,
+        initial_nack_delay: c.initial_nack_delay,
+        default_nack_resend_delay: c.default_nack_resend_delay,
+        max_nack_attempts: c.max_nack_attempts,
+        nack_window: c.nack_window,
+    };
+    let senders = Senders {
+        pt: c.pt,
+        ssrc: Ssrc(c.ssrc),
+        has_rtx: c.has_rtx == 1,
+        rtx_pt: c.rtx_pt,
+        rtx_ssrc: Ssrc(c.rtx_ssrc),
+    };
+    Config { settings, senders }
+}
+
+fn last_of(w: LastWords) -> LastReceived
+    ensures { λ r. ⌜ r ≡ Words.lastOf w ⌝ }
+{
+    if w.has == 0 {
+        return LastReceived::None;
+    }
+    let received = Received {
+        instant: w.instant,
+        timestamp: ExtendedRtpTimestamp(w.timestamp),
+        number: ExtendedSequenceNumber(w.number),
+    };
+    LastReceived::Some(received)
+}
+
+fn returned_of(w: ReturnedWords) -> LastReturned
+    ensures { λ r. ⌜ r ≡ Words.returnedOf w ⌝ }
+{
+    if w.has == 0 {
+        return LastReturned::None;
+    }
+    LastReturned::Some(ExtendedSequenceNumber(w.number))
+}
+
+fn rtt_of(w: RttWords) -> OptRtt
+    ensures { λ r. ⌜ r ≡ Words.rttOf w ⌝ }
+{
+    if w.has == 0 {
+        return OptRtt::None;
+    }
+    OptRtt::Some(RtxRtt {
+        srtt: w.srtt,
+        variation: w.variation,
+    })
+}
+
+fn rtx_of(s: SessionWords) -> RtxState
+    ensures { λ r. ⌜ r ≡ Words.queueOf s .rtx ⌝ }
+{
+    let estimate = RttWords {
+        has: s.has_rtt,
+        srtt: s.srtt,
+        variation: s.variation,
+    };
+    let rtt = rtt_of(estimate);
+    RtxState {
+        rtt,
+        received_in_time: s.rtx_in_time,
+        received_too_late: s.rtx_too_late,
+        received_redundant: s.rtx_redundant,
+        bytes_received: s.rtx_bytes,
+    }
+}
+
+pub fn queue_of(s: SessionWords) -> Queue
+    ensures { λ r. ⌜ r ≡ Words.queueOf s ⌝ }
+{
+    let config = config_of(s.config);
+    let highest = LastWords {
+        has: s.has_last,
+        instant: s.last_instant,
+        timestamp: s.last_timestamp,
+        number: s.last_number,
+    };
+    let last = last_of(highest);
+    let passed = ReturnedWords {
+        has: s.has_returned,
+        number: s.returned,
+    };
+    let returned = returned_of(passed);
+    let rtx = rtx_of(s);
+    let counters = Counters {
+        dropped: s.dropped,
+        received: s.received,
+        bytes: s.bytes,
+        lost: s.lost,
+    };
+    let jitter = Jitter {
+        clock_rate: s.jitter_clock_rate,
+        jitter: s.jitter,
+    };
+    let loss = PacketLoss { loss: s.loss };
+    Queue {
+        config,
+        clock: s.clock,
+        last,
+        returned,
+        rtx,
+        counters,
+        jitter,
+        loss,
+    }
+}
+
+pub fn session_of(s: SessionWords) -> Session
+    ensures { λ r. ⌜ r ≡ Words.sessionOf s ⌝ }
+{
+    let queue = queue_of(s);
+    Session {
+        queue,
+        entries: s.entries,
+        gaps: s.gaps,
+        remembered: s.remembered,
+    }
+}
+
+// ---- to words
+
+fn mode_word(mode: RtpInboundQueueMode) -> u32
+    ensures { λ r. ⌜ r ≡ Words.modeWord mode ⌝ }
+{
+    match mode {
+        RtpInboundQueueMode::Passthrough => 0,
+        RtpInboundQueueMode::SortedQueue => 1,
+    }
+}
+
+fn flag32(b: bool) -> u32
+    ensures { λ r. ⌜ r ≡ flag b ⌝ }
+{
+    if b { 1 } else { 0 }
+}
+
+fn config_words(c: Config) -> ConfigWords
+    ensures { λ r. ⌜ r ≡ Words.configWords c ⌝ }
+{
+    let settings = c.settings;
+    let mode = settings.mode;
+    let senders = c.senders;
+    ConfigWords {
+        delay: settings.delay,
+        initial_nack_delay: settings.initial_nack_delay,
+        default_nack_resend_delay: settings.default_nack_resend_delay,
+        nack_window: settings.nack_window,
+        max_entries: settings.max_entries,
+        max_gaps: settings.max_gaps,
+        clock_rate: settings.clock_rate,
+        max_nack_attempts: settings.max_nack_attempts,
+        mode: mode_word(mode),
+        has_rtx: flag32(senders.has_rtx),
+        ssrc: senders.ssrc.0,
+        rtx_ssrc: senders.rtx_ssrc.0,
+        pt: senders.pt,
+        rtx_pt: senders.rtx_pt,
+    }
+}
+
+fn last_words(q: Queue) -> LastWords
+    ensures { λ r. ⌜ r ≡ Words.lastWords (q .last) ⌝ }
+{
+    let last = q.last;
+    match last {
+        LastReceived::None => LastWords {
+            has: 0,
+            instant: 0,
+            timestamp: 0,
+            number: 0,
+        },
+        LastReceived::Some(r) => LastWords {
+            has: 1,
+            instant: r.instant,
+            timestamp: r.timestamp.0,
+            number: r.number.0,
+        },
+    }
+}
+
+fn returned_words(q: Queue) -> ReturnedWords
+    ensures { λ r. ⌜ r ≡ Words.returnedWords (q .returned) ⌝ }
+{
+    let returned = q.returned;
+    match returned {
+        LastReturned::None => ReturnedWords { has: 0, number: 0 },
+        LastReturned::Some(n) => ReturnedWords {
+            has: 1,
+            number: n.0,
+        },
+    }
+}
+
+fn rtt_words(rtx: RtxState) -> RttWords
+    ensures { λ r. ⌜ r ≡ Words.rttWords (rtx .rtt) ⌝ }
+{
+    let rtt = rtx.rtt;
+    match rtt {
+        OptRtt::None => RttWords {
+            has: 0,
+            srtt: 0,
+            variation: 0,
+        },
+        OptRtt::Some(e) => RttWords {
+            has: 1,
+            srtt: e.srtt,
+            variation: e.variation,
+        },
+    }
+}
+
+pub fn words_of(s: Session) -> SessionWords
+    ensures { λ r. ⌜ r ≡ Words.wordsOf s ⌝ }
+{
+    let q = s.queue;
+    let config = config_words(q.config);
+    let highest = last_words(q);
+    let passed = returned_words(q);
+    let estimate = rtt_words(q.rtx);
+    SessionWords {
+        config,
+        clock: q.clock,
+        has_last: highest.has,
+        last_instant: highest.instant,
+        last_timestamp: highest.timestamp,
+        last_number: highest.number,
+        has_returned: passed.has,
+        returned: passed.number,
+        has_rtt: estimate.has,
+        srtt: estimate.srtt,
+        variation: estimate.variation,
+        rtx_in_time: q.rtx.received_in_time,
+        rtx_too_late: q.rtx.received_too_late,
+        rtx_redundant: q.rtx.received_redundant,
+        rtx_bytes: q.rtx.bytes_received,
+        dropped: q.counters.dropped,
+        received: q.counters.received,
+        bytes: q.counters.bytes,
+        lost: q.counters.lost,
+        jitter_clock_rate: q.jitter.clock_rate,
+        jitter: q.jitter.jitter,
+        entries: s.entries,
+        gaps: s.gaps,
+        remembered: s.remembered,
+        loss: q.loss.loss,
+    }
+}
+
+fn no_config() -> ConfigWords
+    ensures { λ r. ⌜ r ≡ Words.noConfig ⌝ }
+{
+    ConfigWords {
+        delay: 0,
+        initial_nack_delay: 0,
+        default_nack_resend_delay: 0,
+        nack_window: 0,
+        max_entries: 0,
+        max_gaps: 0,
+        clock_rate: 0,
+        max_nack_attempts: 0,
+        mode: 0,
+        has_rtx: 0,
+        ssrc: 0,
+        rtx_ssrc: 0,
+        pt: 0,
+        rtx_pt: 0,
+    }
+}
+
+// What a refused opening gives in place of a session.
+pub fn no_session() -> SessionWords
+    ensures { λ r. ⌜ r ≡ Words.noSession ⌝ }
+{
+    let config = no_config();
+    SessionWords {
+        config,
+        clock: 0,
+        has_last: 0,
+        last_instant: 0,
+        last_timestamp: 0,
+        last_number: 0,
+        has_returned: 0,
+        returned: 0,
+        has_rtt: 0,
+        srtt: 0,
+        variation: 0,
+        rtx_in_time: 0,
+        rtx_too_late: 0,
+        rtx_redundant: 0,
+        rtx_bytes: 0,
+        dropped: 0,
+        received: 0,
+        bytes: 0,
+        lost: 0,
+        jitter_clock_rate: 0.0,
+        jitter: 0.0,
+        entries: 0,
+        gaps: 0,
+        remembered: 0,
+        loss: 0.0,
+    }
+}
+
+// What a call writes, the next one reads as it was.
+pub fn words_are_kept()
+    ensures { λ r. ⌜ Kept ⌝ }
+{}
