@@ -3,7 +3,7 @@
 ghost use mathlib.Core.Path.{_≡_};
 ghost use mathlib.Core.List.{[]};
 ghost use Rattle.model.specs.Calls as Calls;
-ghost use Rattle.queue.specs.Answers.{storage};
+ghost use Rattle.model.specs.Contract.{storage};
 ghost use Rattle.ffi_words.specs.Told as Told;
 ghost use Rattle.ffi.specs.Exported as Exported;
 ghost use Rattle.ffi.specs.Exported.{Follows, Gives, alone, openedWords};
@@ -20,12 +20,10 @@ use ffi_words::answers::Pushed;
 use ffi_words::answers::RtxStats;
 use ffi_words::answers::Timeout;
 use model::Queue;
-use queue::nack;
+use poll::nack;
+use push::rtx;
 use queue::open;
-use queue::poll;
-use queue::push;
 use queue::reading;
-use queue::rtx;
 
 // A refused opening gives a session of zeros.
 #[no_mangle]

@@ -1,8 +1,8 @@
 -- `media_told` meets its contract: each arm is an answer of the definition.
 use mathlib.Core.Path.{_≡_}
-use Rattle.queue.specs.declared.MediaAnswer.the-variants.{Queued, Dropped, Refused}
+use Rattle.push.specs.declared.MediaAnswer.the-variants.{Queued, Dropped, Refused}
 use Rattle.ffi_words.specs.Told.{pushed, sessionAfter, refusalIn, numberIn, optWords}
-use Rattle.queue.specs.Answers.{mediaAnswer}
+use Rattle.push.specs.Answers.{mediaAnswer}
 use borrow.Author.Needs.{needs}
 use Rattle.ffi_words.proofs.answers.media_told.Statement.{statement}
 use Rattle.ffi_words.proofs.answers.media_told.Tie as tie

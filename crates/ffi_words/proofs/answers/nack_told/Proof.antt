@@ -1,8 +1,8 @@
 -- `nack_told` meets its contract: each arm is an answer of the definition.
 use mathlib.Core.Path.{_≡_}
-use Rattle.queue.specs.declared.NackAnswer.the-variants.{Nothing, Numbers, Refused}
+use Rattle.poll.specs.declared.nack.NackAnswer.the-variants.{Nothing, Numbers, Refused}
 use Rattle.ffi_words.specs.Told.{polledNack, sessionAfter, refusalIn, numberIn, optWords}
-use Rattle.queue.specs.Answers.{nackAnswer}
+use Rattle.poll.specs.Answers.{nackAnswer}
 use borrow.Author.Needs.{needs}
 use Rattle.ffi_words.proofs.answers.nack_told.Statement.{statement}
 use Rattle.ffi_words.proofs.answers.nack_told.Tie as tie

@@ -1,6 +1,6 @@
 -- `packet_words` meets its contract: field by field.
 use Rattle.ffi_words.specs.Told.{packetWords}
-use Rattle.queue.specs.Answers.{packetOf}
+use Rattle.poll.specs.Answers.{packetOf}
 use borrow.Author.Needs.{needs}
 use Rattle.ffi_words.proofs.answers.packet_words.Statement.{statement}
 use Rattle.ffi_words.proofs.answers.packet_words.Tie as tie

@@ -1,8 +1,8 @@
 -- `poll_told` meets its contract: each arm is an answer of the definition.
 use mathlib.Core.Path.{_≡_, _∙_}
-use Rattle.queue.specs.declared.PollAnswer.the-variants.{Nothing, Packet, Refused}
+use Rattle.poll.specs.declared.PollAnswer.the-variants.{Nothing, Packet, Refused}
 use Rattle.ffi_words.specs.Told.{polled, sessionAfter, packetIn, refusalIn, numberIn, optWords}
-use Rattle.queue.specs.Answers.{pollAnswer}
+use Rattle.poll.specs.Answers.{pollAnswer}
 use borrow.Author.Needs.{needs}
 use Rattle.ffi_words.proofs.answers.poll_told.Statement.{statement}
 use Rattle.ffi_words.proofs.answers.poll_told.Tie as tie

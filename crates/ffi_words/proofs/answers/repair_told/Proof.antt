@@ -1,8 +1,8 @@
 -- `repair_told` meets its contract: each arm is an answer of the definition.
 use mathlib.Core.Path.{_≡_}
-use Rattle.queue.specs.declared.RepairAnswer.the-variants.{Recovered, Redundant, TooLate, Refused}
+use Rattle.push.specs.declared.rtx.RepairAnswer.the-variants.{Recovered, Redundant, TooLate, Refused}
 use Rattle.ffi_words.specs.Told.{pushed, sessionAfter, fateNumber, refusalIn, numberIn, optWords}
-use Rattle.queue.specs.Answers.{repairAnswer}
+use Rattle.push.specs.Answers.{repairAnswer}
 use borrow.Author.Needs.{needs}
 use Rattle.ffi_words.proofs.answers.repair_told.Statement.{statement}
 use Rattle.ffi_words.proofs.answers.repair_told.Tie as tie
