@@ -12,7 +12,7 @@ use Rattle.model.specs.Did.{did}
 use Rattle.ffi_words.specs.declared.SessionWords.{SessionWords}
 use Rattle.ffi_words.specs.Words.{readable, sessionOf}
 use Rattle.ffi_words.specs.Told.{back}
-use Rattle.ffi.specs.Exported.{Given, unread, told, called, Gives}
+use Rattle.ffi.specs.Exported.{unread, told, called, Gives}
 
 module _ {A : Type 0} (tell : Answer → SessionWords → A) (c : Call) (w : SessionWords) (t : Storage) (r : A) where
   pub not-read : readable w ≡ false → r ≡ tell (Calls.refused SESSION) w → Gives tell c w t r t (outputOf c)

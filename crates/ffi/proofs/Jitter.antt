@@ -1,7 +1,7 @@
 -- What `Jitter::get` asks holds in a session whose settings and records pass their checks.
 use mathlib.Core.Path.{_≡_, subst, sym}
 use mathlib.Core.Bool.{true, _&&_}
-use Prim.Native.Nat.{_≤_, _<_, _^_}
+use Prim.Native.Nat.{_<_, _^_}
 use native.Mathlib.Omega.{arith}
 use lib.Dec.{T}
 use lib.Ieee.Positive.{positive}

@@ -11,7 +11,7 @@ use Rattle.model.specs.declared.Queue.{Queue}
 use Rattle.model.specs.Rules.{MAX-LOST-NACKED}
 use Rattle.model.specs.Valid.{queueSound}
 use Rattle.model.specs.Records.{newState}
-use Rattle.model.specs.Storage.{Storage, Stored, write, ENTRY-WORDS, PAYLOAD-BYTES, GAP-WORDS, REMEMBERED-WORDS}
+use Rattle.model.specs.Storage.{Storage, write, ENTRY-WORDS, PAYLOAD-BYTES, GAP-WORDS, REMEMBERED-WORDS}
 use Rattle.model.specs.Calls as Calls
 use Rattle.model.specs.Calls.{Answer, Call, outputOf}
 use Rattle.model.specs.Table.{configValid, openingRefusal}
@@ -32,9 +32,11 @@ pub record Given (A : Type 0) : Type 0 where
   pub output : List ℕ
 
 module _ {A : Type 0} (tell : Answer → SessionWords → A) where
+  -- words that cannot be read
   unfoldable pub unread : Call → SessionWords → Storage → Given A
   unread c w t = record { value = tell (Calls.refused SESSION) w; storage = t; output = outputOf c }
 
+  -- what the queue's call did, in words
   unfoldable pub told : SessionWords → Done → Given A
   told w d = record { value = back tell (d .answer) w (d .stored .session); storage = d .stored .storage; output = d .output }
 

@@ -1,7 +1,6 @@
 -- What is written as words is read again as it was.
 use mathlib.Core.Path.{_≡_, refl}
-use mathlib.Core.Bool.{Bool, true, false, _&&_}
-use Prim.Native.Nat.{ℕ}
+use mathlib.Core.Bool.{Bool, true, false}
 use lib.Dec.{eqb, leb}
 use Rattle.rtx_state.specs.declared.OptRtt.{OptRtt}
 use Rattle.rtx_state.specs.declared.OptRtt.the-variants as OptRtt
@@ -12,7 +11,6 @@ use Rattle.model.specs.declared.LastReceived.the-variants as LastReceived
 use Rattle.model.specs.declared.LastReturned.{LastReturned}
 use Rattle.model.specs.declared.LastReturned.the-variants as LastReturned
 use Rattle.model.specs.declared.Config.{Config}
-use Rattle.model.specs.declared.Session.{Session}
 use Rattle.ffi_words.specs.Words.{configReadable, readable, modeOf, configOf, lastOf, returnedOf, rttOf, queueOf, sessionOf, flag, modeWord, configWords, lastWords, returnedWords, rttWords, wordsOf, Kept}
 
 -- ---- each part

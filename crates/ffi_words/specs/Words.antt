@@ -5,7 +5,6 @@ use Prim.Native.Nat.{ℕ}
 use lib.Dec.{eqb, leb}
 use Rattle.durations.specs.Seconds.{zero64}
 use Rattle.packet_loss.specs.Loss.{zero32}
-use Rattle.rtx_state.specs.declared.RtxState.{RtxState}
 use Rattle.rtx_state.specs.declared.OptRtt.{OptRtt}
 use Rattle.rtx_state.specs.declared.OptRtt.the-variants as OptRtt
 use Rattle.config.specs.declared.RtpInboundQueueMode.{RtpInboundQueueMode}

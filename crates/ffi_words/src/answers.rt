@@ -93,7 +93,7 @@ pub struct Highest {
     pub number: u64,
 }
 
-// The inbound stream; the jitter in nanoseconds.
+// The inbound stream: 000's counters as they stand, the jitter in nanoseconds.
 #[repr(C)]
 pub struct Figures {
     pub refusal: u64,
