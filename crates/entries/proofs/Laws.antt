@@ -67,16 +67,14 @@ each-fits [] e = none
 each-fits (x ∷ es) e = more (leb-true (length (x .payload)) PAYLOAD-BYTES (and-left (fits x) (every? fits es) e)) (each-fits es (and-right (fits x) (every? fits es) e))
 
 -- both slices hold the entries
-pub payloads-held : {cap n : ℕ} {s : List ℕ} {es : List Entry} → every? fits es ≡ true → s ≡ laid payloadBytes cap es → length es ≡ n → PAYLOAD-BYTES * n ≤ cap
-    → Holds PAYLOAD-BYTES cap payloadBytes s n es
-payloads-held {es = es} f e l h = record { is = e; even = even-payloads es (each-fits es f); count = l; room = h }
-
 module _ (words bytes : List ℕ) (n : ℕ) (k : EntriesIn words bytes n) where
   words-held : Holds ENTRY-WORDS (length words) entryWords words n (entriesOf words bytes n)
   words-held = entries-held (k .held) (length-entriesOf words bytes n) (k .room)
 
   bytes-held : Holds PAYLOAD-BYTES (length bytes) payloadBytes bytes n (entriesOf words bytes n)
-  bytes-held = payloads-held (k .fit) (k .filled) (length-entriesOf words bytes n) (k .places)
+  bytes-held =
+      let es = entriesOf words bytes n in
+      record { is = k .filled; even = even-payloads es (each-fits es (k .fit)); count = length-entriesOf words bytes n; room = k .places }
 
 -- ---- the place of a number
 

@@ -5,7 +5,7 @@ use mathlib.Core.List.{List, [], _∷_, _++_, map, zipWith, append-nil}
 use Prim.Native.Nat.{ℕ, zero, suc, _+_, _*_, _/_, _%_, _≤_, _<_}
 use native.Mathlib.Omega.{arith}
 use lib.Dec.{eqb}
-use lib.ListN.{length, take, drop, getD, length-map, length-take, length-drop, List·getD-map}
+use lib.ListN.{length, take, drop, getD, length-take, length-drop, List·getD-map}
 use lib.Seq.{drop-at, take-all, length-take-le}
 use borrow.Author.Tests.{eqb-true, eqb-false}
 use Rattle.words.specs.Words.{over, written, padded}
@@ -13,7 +13,8 @@ use Rattle.words.specs.Blocks.{blocks, flat, laid}
 use Rattle.words.proofs.Over.{over-nil, over-is, length-over, take-over}
 use Rattle.words.proofs.Moves.{length-padded, written-next}
 use Rattle.words.proofs.Lists.{map-append}
-use Rattle.words.proofs.Blocked.{first-at, length-flat, flat-append, flat-blocks}
+use Rattle.words.proofs.Records.{length-words}
+use Rattle.words.proofs.Blocked.{first-at, flat-append, flat-blocks}
 use Rattle.model.specs.Lists.{some?, every?}
 use Rattle.model.specs.Records.{Entry, Gap, entryNumbers}
 use Rattle.model.specs.Rules.{is}
@@ -100,8 +101,7 @@ each-take P (suc k) (x ∷ xs) (more h e) = more h (each-take P k xs e)
 -- how many bytes the first i places have
 length-places : (es : List Entry) (i : ℕ) → every? fits es ≡ true → i ≤ length es → length (flat (map payloadBytes (take i es))) ≡ PAYLOAD-BYTES * i
 length-places es i f h =
-    length-flat PAYLOAD-BYTES (map payloadBytes (take i es)) (even-payloads (take i es) (each-take Fits i es (each-fits es f)))
-    ∙ ap (λ (k : ℕ). PAYLOAD-BYTES * k) (length-map (take i es) payloadBytes ∙ length-take-le i es h)
+    length-words PAYLOAD-BYTES payloadBytes i (take i es) (even-payloads (take i es) (each-take Fits i es (each-fits es f))) (length-take-le i es h)
 
 module _ (words bytes₀ bytes : List ℕ) (n i : ℕ) (t : Tidying words bytes₀ bytes n i) where
   all : List Entry

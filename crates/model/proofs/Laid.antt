@@ -112,7 +112,7 @@ pub rememberedOf-laid : (l : List Remembered) → rememberedOf (rememberedLaid l
 unfolding rememberedOf rememberedLaid recordsOf laid
 rememberedOf-laid l = records-laid remembered-coded (REMEMBERED-WORDS * MAX-LOST-NACKED) (length l) l refl
 
-pub entries-back : (l : List Entry) → Each Fits l → zipWith entryOf (map entryWords l) (map payloadBytes l) ≡ l
+entries-back : (l : List Entry) → Each Fits l → zipWith entryOf (map entryWords l) (map payloadBytes l) ≡ l
 unfolding zipWith
 entries-back [] none = refl
 entries-back (e ∷ l) (more f fs) = rw (entry-back e f, entries-back l fs)

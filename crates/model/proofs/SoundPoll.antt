@@ -10,7 +10,6 @@ use Rattle.rtp.specs.declared.opt.Opt.{Opt}
 use Rattle.rtp.specs.declared.opt.Opt.the-variants.{Some}
 use Rattle.refusals.proofs.Laws.{orElse-none}
 use Rattle.durations.specs.Seconds.{largest}
-use Rattle.packet_loss.proofs.Range.{lost-in}
 use Rattle.config.specs.declared.Settings.{Settings}
 use Rattle.config.specs.declared.RtpInboundQueueMode.{RtpInboundQueueMode}
 use Rattle.config.specs.declared.RtpInboundQueueMode.the-variants.{Passthrough, SortedQueue}
@@ -21,7 +20,7 @@ use Rattle.model.specs.Table.{lostWith, pollRefusal, pollNackRefusal}
 use Rattle.model.proofs.Lists.{by-cases, Each, none, each-first, each-imp, each-append, each-drop, each-keep, each-trailing, each-map, Rising, rising-keep, rising-trailing, length-keep, length-trailing}
 use Rattle.model.proofs.Sound.{Ahead, GapIn, Apart, RememberedIn, Sound}
 use Rattle.model.proofs.SoundLists.{later, fewer, changed, remembering, out, from-ahead}
-use Rattle.model.proofs.SoundQueue.{clock-of, counts-of, last-later, under-fits}
+use Rattle.model.proofs.SoundQueue.{clock-of, counts-of, under-fits, clock-set, returned-set, lose-in}
 
 abbrev gapNumber : Gap → ℕ
 gapNumber g = g .number
@@ -98,15 +97,7 @@ module _ (now : ℕ) (s : State) (h : Sound s) (later-now : s .queue .clock ≤ 
       let q = h .queue-in in
       record {
         fits = record { entries-fit = h .fits .entries-fit; gaps-fit = omega (arith, length-not-given-up set (set .mode) (s .gaps), h .fits .gaps-fit); remembered-fit = h .fits .remembered-fit };
-        queue-in =
-            record {
-              config-in = q .config-in;
-              last-in = last-later (s .queue .last) later-now (q .last-in);
-              counters-in = record { dropped-fits = q .counters-in .dropped-fits; received-fits = q .counters-in .received-fits; bytes-fit = q .counters-in .bytes-fit; lost-fits = fits };
-              rtx-in = q .rtx-in;
-              jitter-in = q .jitter-in;
-              loss-in = lost-in (s .queue .loss) (length (givenUp set (set .mode) (s .gaps))) (q .loss-in);
-            };
+        queue-in = lose-in _ (clock-set q later-now) fits;
         lists-in = fewer (later (h .lists-in) later-now) (part-not-given-up set (set .mode)) (rising-not-given-up set (set .mode) (h .lists-in .gaps-rise));
       }
 
@@ -130,15 +121,7 @@ out-sound e es s at h fits =
             gaps-fit = omega (arith, length-left mode n (s .gaps), h .fits .gaps-fit);
             remembered-fit = length-remembered (s .queue .config .senders .«has_rtx») lost (s .remembered) (h .fits .remembered-fit);
           };
-      queue-in =
-          record {
-            config-in = q .config-in;
-            last-in = q .last-in;
-            counters-in = record { dropped-fits = q .counters-in .dropped-fits; received-fits = q .counters-in .received-fits; bytes-fit = q .counters-in .bytes-fit; lost-fits = fits };
-            rtx-in = q .rtx-in;
-            jitter-in = q .jitter-in;
-            loss-in = lost-in (s .queue .loss) (length lost) (q .loss-in);
-          };
+      queue-in = returned-set (lose-in (length lost) q fits) n;
       lists-in =
           rw rest
           (remembering

@@ -28,7 +28,7 @@ use Rattle.model.specs.Table.{mediaValues, tooManyGaps, mediaRefusal, fa
 use Rattle.model.proofs.Lists.{by-cases, by-nand, arm-yes, arm-no, Each, none, more, each-first, each-rest, each-keep, empty, rising-keep, length-keep, length-following, length-insert}
 use Rattle.model.proofs.Sound.{Reached, Ahead, ahead-of, By, EntryIn, ListsIn, QueueIn, ListsOf, Sound}
 use Rattle.model.proofs.SoundLists.{reached-gap, later, fewer, remembering, out, fill, come, step, from-ahead}
-use Rattle.model.proofs.SoundQueue.{not-refused, clock-of, counts-of, last-after, last-later, repair-in, late-in, heard-in}
+use Rattle.model.proofs.SoundQueue.{not-refused, clock-of, counts-of, last-after, repair-in, late-in, clock-set, last-set, returned-set, rtx-set, counters-set, loss-set, dropped-in, heard-in}
 
 -- ---- where a media number stands
 
@@ -104,15 +104,7 @@ module _ (s : State) (q : QueueIn (s .queue)) (l : ListsOf s) (entries-fit : len
       let all : length (s .entries) ≡ suc (length xs) = rw e refl in
       record {
         fits = record { entries-fit = omega arith; gaps-fit = omega (arith, length-keep (λ (g : Gap). not (below (x .number) g)) (s .gaps)); remembered-fit = remembered-fit };
-        queue-in =
-            record {
-              config-in = q .config-in;
-              last-in = q .last-in;
-              counters-in = record { dropped-fits = d; received-fits = q .counters-in .received-fits; bytes-fit = q .counters-in .bytes-fit; lost-fits = q .counters-in .lost-fits };
-              rtx-in = q .rtx-in;
-              jitter-in = q .jitter-in;
-              loss-in = q .loss-in;
-            };
+        queue-in = returned-set (dropped-in q d) (x .number);
         lists-in =
             out l e (λ P k. each-keep (λ (g : Gap). not (below (x .number) g)) k) (rising-keep _ (λ (g : Gap). not (below (x .number) g)) (l .gaps-rise))
             (from-ahead (s .queue .config .settings .mode) (x .number) (s .gaps) (each-first (rw e at (l .apart))));
@@ -131,10 +123,9 @@ module _ (now : ℕ) (s : State) (h : Sound s) (later-now : s .queue .clock ≤ 
   unfolding afterDropped heard countDropped
   dropped-sound ts a d =
       let q = heard-in (s .queue) (h .queue-in) later-now now-fits a in
-      let c = q .counters-in in
       record {
         fits = record { entries-fit = h .fits .entries-fit; gaps-fit = h .fits .gaps-fit; remembered-fit = h .fits .remembered-fit };
-        queue-in = record { config-in = q .config-in; last-in = q .last-in; counters-in = record { dropped-fits = d; received-fits = c .received-fits; bytes-fit = c .bytes-fit; lost-fits = c .lost-fits }; rtx-in = q .rtx-in; jitter-in = q .jitter-in; loss-in = q .loss-in };
+        queue-in = dropped-in q d;
         lists-in = later (h .lists-in) later-now;
       }
 
@@ -143,14 +134,8 @@ module _ (now : ℕ) (s : State) (h : Sound s) (later-now : s .queue .clock ≤ 
   queued-queue e p a b r y =
       let q = heard-in (s .queue) (h .queue-in) later-now now-fits a in
       let c = q .counters-in in
-      record {
-        config-in = q .config-in;
-        last-in = last-after now p (s .queue .last) a b (q .last-in);
-        counters-in = record { dropped-fits = c .dropped-fits; received-fits = r; bytes-fit = y; lost-fits = c .lost-fits };
-        rtx-in = q .rtx-in;
-        jitter-in = q .jitter-in;
-        loss-in = received-in (s .queue .loss) (q .loss-in);
-      }
+      loss-set (counters-set (last-set q (last-after now p (s .queue .last) a b (q .last-in))) (record { dropped-fits = c .dropped-fits; received-fits = r; bytes-fit = y; lost-fits = c .lost-fits }))
+      (received-in (s .queue .loss) (q .loss-in))
 
   queued-sound : (e : Entry) → let p = mediaPlace s (e .number) in T (waits p) → By now (e .arrival) → length (e .payload) ≤ LARGEST-PAYLOAD → Each (λ v. v ≤ largest) (mediaValues now e p s) → T (not (tooManyGaps (s .queue .config .settings) (s .gaps) (e .number) p)) → Sound (withinDepth (afterQueued now e p s))
   unfolding mediaValues afterQueued heard countReceived
@@ -203,15 +188,7 @@ module _ (now : ℕ) (e : Entry) (s : State) (h : Sound s) (later-now : s .queue
       let raised = each-first values in
       record {
         fits = record { entries-fit = h .fits .entries-fit; gaps-fit = h .fits .gaps-fit; remembered-fit = omega (arith, length-forget (e .number) (s .remembered), h .fits .remembered-fit) };
-        queue-in =
-            record {
-              config-in = q .config-in;
-              last-in = last-later (s .queue .last) later-now (q .last-in);
-              counters-in = q .counters-in;
-              rtx-in = record { rtt-in = late-in _ (s .queue .rtx .rtt) now-fits (q .rtx-in .rtt-in); in-time-fits = q .rtx-in .in-time-fits; too-late-fits = omega arith; redundant-fits = q .rtx-in .redundant-fits; bytes-fit = q .rtx-in .bytes-fit };
-              jitter-in = q .jitter-in;
-              loss-in = q .loss-in;
-            };
+        queue-in = rtx-set (clock-set q later-now) (record { rtt-in = late-in _ (s .queue .rtx .rtt) now-fits (q .rtx-in .rtt-in); in-time-fits = q .rtx-in .in-time-fits; too-late-fits = omega arith; redundant-fits = q .rtx-in .redundant-fits; bytes-fit = q .rtx-in .bytes-fit });
         lists-in = remembering l (each-forget (e .number) (l .remembered-in));
       }
 
@@ -221,15 +198,7 @@ module _ (now : ℕ) (e : Entry) (s : State) (h : Sound s) (later-now : s .queue
       let raised = each-first values in
       record {
         fits = record { entries-fit = h .fits .entries-fit; gaps-fit = h .fits .gaps-fit; remembered-fit = h .fits .remembered-fit };
-        queue-in =
-            record {
-              config-in = q .config-in;
-              last-in = last-later (s .queue .last) later-now (q .last-in);
-              counters-in = q .counters-in;
-              rtx-in = record { rtt-in = q .rtx-in .rtt-in; in-time-fits = q .rtx-in .in-time-fits; too-late-fits = q .rtx-in .too-late-fits; redundant-fits = omega arith; bytes-fit = q .rtx-in .bytes-fit };
-              jitter-in = q .jitter-in;
-              loss-in = q .loss-in;
-            };
+        queue-in = rtx-set (clock-set q later-now) (record { rtt-in = q .rtx-in .rtt-in; in-time-fits = q .rtx-in .in-time-fits; too-late-fits = q .rtx-in .too-late-fits; redundant-fits = omega arith; bytes-fit = q .rtx-in .bytes-fit });
         lists-in = later (h .lists-in) later-now;
       }
 
@@ -245,15 +214,7 @@ module _ (now : ℕ) (e : Entry) (s : State) (h : Sound s) (later-now : s .queue
               gaps-fit = omega (arith, length-keep (λ (g : Gap). not (is (e .number) g)) (s .gaps), h .fits .gaps-fit);
               remembered-fit = h .fits .remembered-fit;
             };
-        queue-in =
-            record {
-              config-in = q .config-in;
-              last-in = last-later (s .queue .last) later-now (q .last-in);
-              counters-in = q .counters-in;
-              rtx-in = record { rtt-in = repair-in _ (s .queue .rtx .rtt) now-fits (q .rtx-in .rtt-in); in-time-fits = omega arith; too-late-fits = q .rtx-in .too-late-fits; redundant-fits = q .rtx-in .redundant-fits; bytes-fit = omega arith };
-              jitter-in = q .jitter-in;
-              loss-in = lost-in (s .queue .loss) 1 (q .loss-in);
-            };
+        queue-in = loss-set (rtx-set (clock-set q later-now) (record { rtt-in = repair-in _ (s .queue .rtx .rtt) now-fits (q .rtx-in .rtt-in); in-time-fits = omega arith; too-late-fits = q .rtx-in .too-late-fits; redundant-fits = q .rtx-in .redundant-fits; bytes-fit = omega arith })) (lost-in (s .queue .loss) 1 (q .loss-in));
         lists-in = fill (later (h .lists-in) later-now) e k t;
       }
 

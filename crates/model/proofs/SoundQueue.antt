@@ -2,7 +2,7 @@
 use mathlib.Core.Path.{_≡_}
 use mathlib.Core.Bool.{Bool, true, false, not, _&&_, _||_}
 use mathlib.Core.List.{List, [], _∷_}
-use Prim.Native.Nat.{ℕ, _-_, _≤_, _<_}
+use Prim.Native.Nat.{ℕ, _+_, _-_, _≤_, _<_}
 use native.Mathlib.Omega.{arith}
 use lib.Dec.{T, leb, ltb, eqb, leb→le, le→leb, nltb→le, lit<}
 use lib.Ieee.Fits.{and-l, and-r, and-i}
@@ -11,6 +11,10 @@ use Rattle.durations.specs.Seconds.{largest}
 use Rattle.jitter.specs.declared.Jitter.{Jitter}
 use Rattle.jitter.specs.Interarrival.{jitterInRange}
 use Rattle.jitter.proofs.Range.{updated-in}
+use Rattle.packet_loss.specs.declared.PacketLoss.{PacketLoss}
+use Rattle.packet_loss.specs.Loss.{lossInRange}
+use Rattle.packet_loss.proofs.Range.{lost-in}
+use Rattle.rtx_state.specs.declared.RtxState.{RtxState}
 use Rattle.rtx_state.specs.declared.OptRtt.{OptRtt}
 use Rattle.rtx_state.specs.RoundTrip.{optRttInRange}
 use Rattle.rtx_state.proofs.Range.{sampled-in}
@@ -18,13 +22,15 @@ use Rattle.model.specs.declared.LastReceived.{LastReceived}
 use Rattle.model.specs.declared.LastReceived.the-variants as LastReceived
 use Rattle.model.specs.declared.Queue.{Queue}
 use Rattle.model.specs.Lists.{some?}
-use Rattle.model.specs.Records.{Gap, Remembered, highestOf}
+use Rattle.model.specs.declared.Counters.{Counters}
+use Rattle.model.specs.Records.{Gap, Remembered, highestOf, withClock, withLast, withReturned, withRtx, withCounters, withJitter, withLoss}
 use Rattle.model.specs.Rules.{Place, first, near, far, fills, other, rttAfterRepair, rttAfterLate}
-use Rattle.model.specs.Push.{jitterAfter, heard, lastAfter}
+use Rattle.model.specs.Push.{jitterAfter, heard, lastAfter, countDropped}
+use Rattle.model.specs.Poll.{countLost, lose}
 use Rattle.model.specs.Valid.{lastSound}
 use Rattle.model.specs.Table.{refuseIf, clockRefusal, countRefusal}
 use Rattle.model.proofs.Lists.{by-cases, by-nor, Each, each-imp, each-not-of-some}
-use Rattle.model.proofs.Sound.{Under, QueueIn}
+use Rattle.model.proofs.Sound.{Under, CountersIn, RtxIn, QueueIn}
 use Rattle.model.proofs.SoundTest.{rate-of}
 
 -- ---- checks that pass
@@ -93,10 +99,45 @@ unfolding rttAfterLate
 late-in [] rtt le t = t
 late-in {now} (r ∷ rs) rtt le t = sampled-in rtt (now - r .nackedAt) t (omega arith)
 
+-- ---- one part of the queue set
+
+module _ {q : Queue} (h : QueueIn q) where
+  pub clock-set : {now : ℕ} → q .clock ≤ now → QueueIn (withClock q now)
+  clock-set later = record { config-in = h .config-in; last-in = last-later (q .last) later (h .last-in); counters-in = h .counters-in; rtx-in = h .rtx-in; jitter-in = h .jitter-in; loss-in = h .loss-in }
+
+  pub last-set : {l : LastReceived} → T (lastSound (q .clock) l) → QueueIn (withLast q l)
+  last-set k = record { config-in = h .config-in; last-in = k; counters-in = h .counters-in; rtx-in = h .rtx-in; jitter-in = h .jitter-in; loss-in = h .loss-in }
+
+  pub returned-set : (n : ℕ) → QueueIn (withReturned q n)
+  returned-set n = record { config-in = h .config-in; last-in = h .last-in; counters-in = h .counters-in; rtx-in = h .rtx-in; jitter-in = h .jitter-in; loss-in = h .loss-in }
+
+  pub rtx-set : {r : RtxState} → RtxIn r → QueueIn (withRtx q r)
+  rtx-set k = record { config-in = h .config-in; last-in = h .last-in; counters-in = h .counters-in; rtx-in = k; jitter-in = h .jitter-in; loss-in = h .loss-in }
+
+  pub counters-set : {c : Counters} → CountersIn c → QueueIn (withCounters q c)
+  counters-set k = record { config-in = h .config-in; last-in = h .last-in; counters-in = k; rtx-in = h .rtx-in; jitter-in = h .jitter-in; loss-in = h .loss-in }
+
+  pub jitter-set : {j : Jitter} → T (jitterInRange (q .config .settings .«clock_rate») j) → QueueIn (withJitter q j)
+  jitter-set k = record { config-in = h .config-in; last-in = h .last-in; counters-in = h .counters-in; rtx-in = h .rtx-in; jitter-in = k; loss-in = h .loss-in }
+
+  pub loss-set : {l : PacketLoss} → T (lossInRange l) → QueueIn (withLoss q l)
+  loss-set k = record { config-in = h .config-in; last-in = h .last-in; counters-in = h .counters-in; rtx-in = h .rtx-in; jitter-in = h .jitter-in; loss-in = k }
+
+-- one more dropped, n more lost
+pub dropped-in : {q : Queue} → QueueIn q → q .counters .dropped + 1 ≤ largest → QueueIn (withCounters q (countDropped (q .counters)))
+unfolding countDropped
+dropped-in h d = let c = h .counters-in in counters-set h (record { dropped-fits = d; received-fits = c .received-fits; bytes-fit = c .bytes-fit; lost-fits = c .lost-fits })
+
+pub lose-in : {q : Queue} (n : ℕ) → QueueIn q → q .counters .lost + n ≤ largest → QueueIn (lose n q)
+unfolding lose countLost
+lose-in {q} n h k =
+    let c = h .counters-in in
+    loss-set (counters-set h (record { dropped-fits = c .dropped-fits; received-fits = c .received-fits; bytes-fit = c .bytes-fit; lost-fits = k })) (lost-in (q .loss) n (h .loss-in))
+
 -- ---- a packet is heard
 
 pub heard-in : {now ts : ℕ} (q : Queue) → QueueIn q → q .clock ≤ now → now ≤ largest → ts ≤ largest → QueueIn (heard now ts q)
 unfolding heard
 heard-in q h later a b =
     let rate = rate-of (q .config) (h .config-in) in
-    record { config-in = h .config-in; last-in = last-later (q .last) later (h .last-in); counters-in = h .counters-in; rtx-in = h .rtx-in; jitter-in = jitter-after (q .clock) (q .last) (q .jitter) (rate .some) (rate .small) a b (h .last-in) (h .jitter-in); loss-in = h .loss-in }
+    jitter-set (clock-set h later) (jitter-after (q .clock) (q .last) (q .jitter) (rate .some) (rate .small) a b (h .last-in) (h .jitter-in))

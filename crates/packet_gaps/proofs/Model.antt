@@ -76,10 +76,6 @@ sound-instants q gs c e = every-weaker (gapSound q) instantsFit one gs e
 -- ---- NACKs
 
 module _ (set : Settings) (rtt : OptRtt) (now : ℕ) where
-  pub due-is : (g : Gap) → due set rtt now g ≡ dueBy (nackTimings set rtt) now g
-  unfolding due dueAt dueAfter nackTimings
-  due-is g = refl
-
   pub due-keep : (gs : List Gap) → keep (due set rtt now) gs ≡ keep (dueBy (nackTimings set rtt) now) gs
   unfolding due dueAt dueAfter nackTimings
   due-keep gs = refl

@@ -12,6 +12,7 @@ use Rattle.model.specs.Lists.{following}
 use Rattle.model.specs.Records.{Gap}
 use Rattle.model.specs.Rules.{between, fresh}
 use Rattle.model.specs.Storage.{GAP-WORDS, gapWords, gapsOf}
+use Rattle.model.proofs.Lists.{length-following}
 use Rattle.model.proofs.Laid.{gaps-held, length-gapsOf}
 use Rattle.packet_gaps.specs.Gaps.{GapsIn}
 
@@ -21,11 +22,6 @@ following-next a zero = let e : a ≡ a + 0 = omega arith in ap (λ (v : ℕ). v
 following-next a (suc k) =
     let e : suc a + k ≡ a + suc k = omega arith in
     ap (λ (l : List ℕ). a ∷ l) (following-next (suc a) k ∙ ap (λ (v : ℕ). following (suc a) k ++ (v ∷ [])) e)
-
-length-following : (a k : ℕ) → length (following a k) ≡ k
-unfolding following
-length-following a zero = refl
-length-following a (suc k) = ap suc (length-following (suc a) k)
 
 -- the gaps before the number that follows h by k + 1 are open
 unfoldable pub opened : List ℕ → ℕ → ℕ → ℕ → ℕ → List Gap

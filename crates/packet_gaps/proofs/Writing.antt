@@ -17,6 +17,7 @@ use Rattle.model.specs.Lists.{keep, some?}
 use Rattle.model.specs.Records.{Gap}
 use Rattle.model.specs.Rules.{nacked}
 use Rattle.model.specs.Storage.{GAP-WORDS, gapWords, gapOfWords, gapsOf}
+use Rattle.model.proofs.Lists.{length-keep}
 use Rattle.model.proofs.Laid.{gap-wide, gaps-held, gap-coded, length-gapsOf}
 use Rattle.packet_gaps.specs.Gaps.{GapsIn, dueBy, nackedBy, truncated}
 use Rattle.packet_gaps.proofs.Laws.{noGap, gap-at}
@@ -33,15 +34,6 @@ module _ {A : Type 0} (p : A → Bool) where
       go : (c : Bool) → keep p (a ++ b) ≡ keep p a ++ keep p b → cond c (x ∷ keep p (a ++ b)) (keep p (a ++ b)) ≡ cond c (x ∷ keep p a) (keep p a) ++ keep p b
       go true e = ap (λ (l : List A). x ∷ l) e
       go false e = e
-
-  pub keep-le : (xs : List A) → length (keep p xs) ≤ length xs
-  unfolding keep
-  keep-le [] = omega arith
-  keep-le (x ∷ xs) = go (p x) (keep-le xs)
-    where
-      go : (c : Bool) → length (keep p xs) ≤ length xs → length (cond c (x ∷ keep p xs) (keep p xs)) ≤ suc (length xs)
-      go true e = omega arith
-      go false e = omega arith
 
   -- the one at place i, if it passes, follows those before it
   module _ (d : A) (xs : List A) (i : ℕ) (h : i < length xs) where
@@ -103,7 +95,7 @@ polling-none t now s₀ out₀ n k r =
       room = r;
       same = refl;
       counted = refl;
-      numbers = writing-none (map truncated q) out₀ (length q) (omega (arith, length-map q truncated)) (omega (arith, keep-le (dueBy t now) gs, length-gapsOf s₀ n));
+      numbers = writing-none (map truncated q) out₀ (length q) (omega (arith, length-map q truncated)) (omega (arith, length-keep (dueBy t now) gs, length-gapsOf s₀ n));
       held = k .held;
     }
 

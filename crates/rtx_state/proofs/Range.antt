@@ -2,7 +2,7 @@
 -- The resend delay of such an estimate is below 2 ^ 54.
 use mathlib.Core.Path.{_≡_, refl, sym, subst}
 use mathlib.Core.Logic.{inl}
-use mathlib.Core.Bool.{Bool, false, _&&_}
+use mathlib.Core.Bool.{false}
 use Prim.Native.Nat.{ℕ, _-_, _≤_, _<_, _^_}
 use native.Mathlib.Nat.{le-refl, lt-of-le-of-lt}
 use native.Mathlib.Omega.{arith}
@@ -15,8 +15,6 @@ use Rattle.rtp.specs.Numbers.{apart}
 use Rattle.durations.specs.Seconds.{largest, asSecsF64, zero64, limit}
 use Rattle.durations.proofs.Bound.{secs-upto, nanos-le, upto-in}
 use Rattle.rtx_state.specs.RoundTrip.{three-halves, fromFirstSample, rttUpdated, sampledRtt, nackResendDelay, rttInRange, optRttInRange}
-use Rattle.rtx_state.specs.Repair.{rtxInRange}
-use Rattle.rtx_state.specs.declared.RtxState.{RtxState}
 use Rattle.rtx_state.specs.declared.RtxRtt.{RtxRtt}
 use Rattle.rtx_state.specs.declared.OptRtt.{OptRtt}
 use Rattle.rtx_state.specs.declared.OptRtt.the-variants.{None, Some}
@@ -68,50 +66,3 @@ delay-in e h = upto-in (delay e) 11259000 (lit< tt) (delay-upto e h)
 pub delay-lt : (e : RtxRtt) → T (rttInRange e) → nackResendDelay e < 2 ^ 54
 unfolding nackResendDelay
 delay-lt e h = lt-of-le-of-lt (nanos-le (delay e) 11259000 (delay-upto e h)) (lit< tt)
-
--- ---- the state with its counters
-pub record Counted (s : RtxState) : Type 0 where
-  pub rtt : T (optRttInRange (s .rtt))
-  pub in-time : s .«received_in_time» ≤ largest
-  pub too-late : s .«received_too_late» ≤ largest
-  pub redundant : s .«received_redundant» ≤ largest
-  pub bytes : s .«bytes_received» ≤ largest
-
-module _ (s : RtxState) where
-  abbrev a : Bool
-  a = optRttInRange (s .rtt)
-
-  abbrev b : Bool
-  b = leb (s .«received_in_time») largest
-
-  abbrev c : Bool
-  c = leb (s .«received_too_late») largest
-
-  abbrev d : Bool
-  d = leb (s .«received_redundant») largest
-
-  abbrev e : Bool
-  e = leb (s .«bytes_received») largest
-
-  pub counted : T (rtxInRange s) → Counted s
-  unfolding rtxInRange
-  counted t =
-      let t4 = and-l (a && b && c && d) e t in
-      let t3 = and-l (a && b && c) d t4 in
-      let t2 = and-l (a && b) c t3 in
-      record {
-        rtt = and-l a b t2;
-        in-time = leb→le (s .«received_in_time») largest (and-r a b t2);
-        too-late = leb→le (s .«received_too_late») largest (and-r (a && b) c t3);
-        redundant = leb→le (s .«received_redundant») largest (and-r (a && b && c) d t4);
-        bytes = leb→le (s .«bytes_received») largest (and-r (a && b && c && d) e t);
-      }
-
-  pub in-range : Counted s → T (rtxInRange s)
-  unfolding rtxInRange
-  in-range k =
-      and-i (a && b && c && d) e
-      (and-i (a && b && c) d
-      (and-i (a && b) c (and-i a b (k .rtt) (le→leb (s .«received_in_time») largest (k .in-time))) (le→leb (s .«received_too_late») largest (k .too-late)))
-      (le→leb (s .«received_redundant») largest (k .redundant)))
-      (le→leb (s .«bytes_received») largest (k .bytes))

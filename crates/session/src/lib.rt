@@ -101,3 +101,26 @@ pub fn lose(q: Queue, n: u64) -> Queue
     next.loss = loss;
     next
 }
+
+// The number is the last returned: handed out or pushed out.
+fn with_returned(q: Queue, number: u64) -> Queue
+    ensures { λ r. ⌜ r ≡ Records.withReturned q number ⌝ }
+{
+    let returned = LastReturned::Some(ExtendedSequenceNumber(number));
+    let config = q.config;
+    let last = q.last;
+    let rtx = q.rtx;
+    let counters = q.counters;
+    let jitter = q.jitter;
+    let loss = q.loss;
+    Queue {
+        config,
+        clock: q.clock,
+        last,
+        returned,
+        rtx,
+        counters,
+        jitter,
+        loss,
+    }
+}

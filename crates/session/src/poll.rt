@@ -13,9 +13,7 @@ ghost use Rattle.model.specs.Table as Table;
 use config::RtpInboundQueueMode;
 use durations::LARGEST;
 use model::LastReceived;
-use model::LastReturned;
 use model::Queue;
-use rtp::ExtendedSequenceNumber;
 use rtp::opt::Opt;
 
 // 14, for the numbers lost.
@@ -45,25 +43,7 @@ pub fn handed_out(q: Queue, lost: u64, number: u64) -> Queue
     requires { ⌜ q .counters .lost + lost < 2 ^ 64 ⌝ }
     ensures { λ r. ⌜ r ≡ Records.withReturned (Poll.lose lost q) number ⌝ }
 {
-    let config = q.config;
-    let last = q.last;
-    let rtx = q.rtx;
-    let jitter = q.jitter;
-    let next = super::lose(q, lost);
-    let counters = next.counters;
-    let loss = next.loss;
-    let handed = ExtendedSequenceNumber(number);
-    let returned = LastReturned::Some(handed);
-    Queue {
-        config,
-        clock: q.clock,
-        last,
-        returned,
-        rtx,
-        counters,
-        jitter,
-        loss,
-    }
+    super::with_returned(super::lose(q, lost), number)
 }
 
 fn reaches(timestamp: u64, limit: Opt) -> bool

@@ -17,7 +17,6 @@ use config::Settings;
 use durations::LARGEST;
 use model::Counters;
 use model::LastReceived;
-use model::LastReturned;
 use model::Queue;
 use model::Received;
 use rtp::ExtendedRtpTimestamp;
@@ -141,22 +140,9 @@ pub fn pushed_out(q: Queue, number: u64) -> Queue
     ensures { λ r. ⌜ r ≡ Records.withReturned (Records.withCounters q (Push.countDropped (q .counters))) number ⌝ }
 {
     let counters = count_dropped(q.counters);
-    let returned = LastReturned::Some(ExtendedSequenceNumber(number));
-    let config = q.config;
-    let last = q.last;
-    let rtx = q.rtx;
-    let jitter = q.jitter;
-    let loss = q.loss;
-    Queue {
-        config,
-        clock: q.clock,
-        last,
-        returned,
-        rtx,
-        counters,
-        jitter,
-        loss,
-    }
+    let mut next = q;
+    next.counters = counters;
+    super::with_returned(next, number)
 }
 
 // 14 for one value.

@@ -2,7 +2,7 @@
 use native.Mathlib.Omega.{arith}
 use Rattle.model.specs.Storage.{gapsOf}
 use Rattle.model.proofs.Laid.{length-gapsOf}
-use Rattle.packet_gaps.proofs.Writing.{keep-le}
+use Rattle.model.proofs.Lists.{length-keep}
 use Rattle.lost_nacked.specs.Remembered.{once}
 use Rattle.lost_nacked.proofs.Noting.{note-count, note-in, note-length, note-words}
 use borrow.Author.Needs.{needs}
@@ -13,7 +13,7 @@ count-once-requires : tie.Need-count-once-requires
 count-once-requires c κs = search needs
 
 add-beyond : tie.Need-add-beyond
-add-beyond c = let s = c .before .before .before in omega (arith, c .count-once .ensures, keep-le once (gapsOf (s .args .gaps .now) (s .args .lost)), length-gapsOf (s .args .gaps .now) (s .args .lost))
+add-beyond c = let s = c .before .before .before in omega (arith, c .count-once .ensures, length-keep once (gapsOf (s .args .gaps .now) (s .args .lost)), length-gapsOf (s .args .gaps .now) (s .args .lost))
 
 beyond-requires : tie.Need-beyond-requires
 beyond-requires c κs = search needs
@@ -42,7 +42,7 @@ append-requires c κs = let s = c .before .before .before .before .before .befor
     (note-in (s .args .s .now) (s .args .n) (s .args .gaps .now) (s .args .lost) _ _ _ (s .pre .0) (c .before .before .before .before .before .before .before .count-once .ensures) (c .before .before .before .before .before .before .beyond .ensures) (c .before .before .before .before .before .least .ensures) _ (c .before .before .before .remove .ensures), (s .pre .1 .1, omega (arith, u, c .before .before .before .before .before .before .before .count-once .ensures, c .before .before .before .before .before .before .beyond .ensures, c .before .before .before .before .before .least .ensures, s .pre .1 .0)))
 
 add-result : tie.Need-add-result
-add-result c = let s = c .before .before .before .before .before .before .before .before .before .before .before .before .before in omega (arith, c .before .before .before .before .before .before .before .before .before .before .count-once .ensures, keep-le once (gapsOf (s .args .gaps .now) (s .args .lost)), length-gapsOf (s .args .gaps .now) (s .args .lost))
+add-result c = let s = c .before .before .before .before .before .before .before .before .before .before .before .before .before in omega (arith, c .before .before .before .before .before .before .before .before .before .before .count-once .ensures, length-keep once (gapsOf (s .args .gaps .now) (s .args .lost)), length-gapsOf (s .args .gaps .now) (s .args .lost))
 
 sub-result : tie.Need-sub-result
 sub-result c = search needs

@@ -1,5 +1,4 @@
--- `handed_out` meets its contract: the struct anew is the definition's.
-use Rattle.model.specs.Poll.{lose}
+-- `handed_out`: what the two callees say.
 use borrow.Author.Needs.{needs}
 use Rattle.session.proofs.poll.handed_out.Statement.{statement}
 use Rattle.session.proofs.poll.handed_out.Tie as tie
@@ -7,9 +6,11 @@ use Rattle.session.proofs.poll.handed_out.Tie as tie
 lose-requires : tie.Need-lose-requires
 lose-requires c κs = search needs
 
+with-returned-requires : tie.Need-with-returned-requires
+with-returned-requires c κs = search needs
+
 returns : tie.Need-returns
-unfolding lose
-returns c = rw (c .before .before .lose .ensures)
+returns c = cc
 
 pub handed-out-spec : {M : Type 1} → statement M
-handed-out-spec = tie.close (tie.spec lose-requires returns)
+handed-out-spec = tie.close (tie.spec lose-requires with-returned-requires returns)
