@@ -1,6 +1,6 @@
 -- `heard` meets its contract, arm by arm.
 use mathlib.Core.Path.{_≡_}
-use Rattle.model.specs.declared.LastReceived.the-variants.{None, Some}
+use Rattle.model.specs.declared.LastReceived.the-variants.{None}
 use Rattle.model.specs.Push.{heard, jitterAfter}
 use borrow.Author.Needs.{needs}
 use Rattle.session.proofs.heard.Statement.{statement}

@@ -1,7 +1,6 @@
 -- `clock` meets its contract: the two tests of the definition, in its order.
 use borrow.Author.Tests.{lt-ltb, le-ltb}
 use Rattle.model.specs.Table.{clockRefusal, refuseIf}
-use borrow.Author.Needs.{needs}
 use Rattle.session.proofs.check.clock.Statement.{statement}
 use Rattle.session.proofs.check.clock.Tie as tie
 

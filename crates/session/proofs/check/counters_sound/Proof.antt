@@ -1,7 +1,6 @@
 -- `counters_sound` meets its contract: the same tests.
 use mathlib.Core.Bool.{and-assoc}
 use Rattle.model.specs.Valid.{countersSound}
-use borrow.Author.Needs.{needs}
 use Rattle.session.proofs.check.counters_sound.Statement.{statement}
 use Rattle.session.proofs.check.counters_sound.Tie as tie
 

@@ -1,6 +1,5 @@
 -- `rtx` meets its contract: the flag decides.
 use Rattle.model.specs.Table.{rtxRefusal, refuseIf}
-use borrow.Author.Needs.{needs}
 use Rattle.session.proofs.check.rtx.Statement.{statement}
 use Rattle.session.proofs.check.rtx.Tie as tie
 

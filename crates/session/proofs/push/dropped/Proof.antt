@@ -1,5 +1,4 @@
 -- `dropped`: the struct anew is the definition's.
-use Rattle.model.specs.Push.{heard}
 use borrow.Author.Needs.{needs}
 use Rattle.session.proofs.push.dropped.Statement.{statement}
 use Rattle.session.proofs.push.dropped.Tie as tie
