@@ -11,7 +11,7 @@ use Rattle.words.specs.Order.{ascends}
 use Rattle.config.specs.declared.RtpInboundQueueMode.{RtpInboundQueueMode}
 use Rattle.model.specs.declared.Queue.{Queue}
 use Rattle.model.specs.declared.Session.{Session}
-use Rattle.model.specs.Records.{Entry, gapNumbers, withReturned}
+use Rattle.model.specs.Records.{gapNumbers, withReturned}
 use Rattle.model.specs.Rules.{rememberedAfter}
 use Rattle.model.specs.Poll.{lose, lostBelow, leftFrom, handOut}
 use Rattle.model.specs.Storage.{PAYLOAD-BYTES, entryWords, payloadBytes, gapWords, rememberedWords, entriesOf, gapsOf, rememberedOf, parse, write}

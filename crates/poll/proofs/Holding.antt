@@ -4,7 +4,6 @@ use Prim.Native.Nat.{_+_, _<_, _^_}
 use native.Mathlib.Omega.{arith}
 use Rattle.words.specs.Blocks.{laid}
 use Rattle.model.specs.Records.{State}
-use Rattle.model.specs.Valid.{sound}
 use Rattle.model.specs.Storage.{Storage, Stored, entriesLaid, payloadsLaid, gapsLaid, rememberedLaid, parse, write}
 use Rattle.poll.specs.Steps.{Leaves}
 use Rattle.storage.proofs.Checking.{Lengths}

@@ -1,4 +1,4 @@
--- A media packet that is accepted: what its checks and check 16 give the functions that queue it, and that what they leave is what `model` says.
+-- A media packet that is accepted: what its checks and check 16 give the functions that queue it, and that they leave what `model` says.
 use mathlib.Core.Path.{_≡_, refl, sym, ap, subst, _∙_}
 use mathlib.Core.Bool.{Bool, true, false, cond, not}
 use mathlib.Core.List.{List, [], _∷_}

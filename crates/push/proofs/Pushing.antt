@@ -14,7 +14,7 @@ use Rattle.rtp_packet.specs.declared.RtpPacket.{RtpPacket}
 use Rattle.rtp_packet.specs.Header.{between, payloadOf}
 use Rattle.rtp_packet.specs.Datagram.{LARGEST-PAYLOAD, datagramRefusal, packetOf}
 use Rattle.rtp_packet.proofs.Bounds.{payload-of-packet}
-use Rattle.model.specs.Records.{Entry, State}
+use Rattle.model.specs.Records.{State}
 use Rattle.model.specs.Push.{mediaEntry, mediaPlace, afterMedia}
 use Rattle.model.specs.Storage.{Stored, arrivalWord, parse, write}
 use Rattle.model.specs.Calls as Calls

@@ -1,6 +1,5 @@
 // The checks of 01's table that look at the session alone, a function for each row; 0 means that the call is not turned back.
 ghost use mathlib.Core.Path.{_≡_};
-ghost use lib.ListN.{length};
 ghost use Rattle.model.specs.Records as Records;
 ghost use Rattle.model.specs.Valid as Valid;
 ghost use Rattle.model.specs.Table as Table;

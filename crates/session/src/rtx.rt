@@ -6,7 +6,6 @@ ghost use Rattle.durations.specs.Seconds.{largest};
 ghost use Rattle.rtx_state.specs.Repair as Repair;
 ghost use Rattle.packet_loss.specs.Loss as Loss;
 ghost use Rattle.model.specs.Records as Records;
-ghost use Rattle.model.specs.Push as Push;
 ghost use Rattle.model.specs.Table as Table;
 ghost use Rattle.session.specs.Place as Spec;
 use durations::LARGEST;
