@@ -1,10 +1,8 @@
 // A line's call, made on the session.
 ghost use Prim.Native.Nat.{_≤_};
-use crate::answers;
 use crate::lists;
 use crate::opening;
 use crate::opening::OptConfig;
-use crate::output;
 use model::Session;
 use queue::Opening;
 use trace::Call;
@@ -66,7 +64,7 @@ fn open(
     ) {
         Opening::Session(session) => Step {
             held: Held::Some(session),
-            at: output::line(out, at, b"opened"),
+            at: answers::line(out, at, b"opened"),
         },
         Opening::Refused(number) => Step {
             held: before,
@@ -88,7 +86,7 @@ fn media(
 ) -> Step {
     let size = lent(d.size, 1, bytes.len());
     let datagram = &bytes[0..size];
-    let done = queue::push::push(s, entries, payloads, gaps, remembered, d.now, datagram);
+    let done = push::push(s, entries, payloads, gaps, remembered, d.now, datagram);
     let answer = done.answer;
     let session = done.session;
     let to = answers::media(out, at, answer);
@@ -111,7 +109,7 @@ fn repair(
 ) -> Step {
     let size = lent(d.size, 1, bytes.len());
     let datagram = &bytes[0..size];
-    let done = queue::rtx::push_rtx(s, entries, payloads, gaps, remembered, d.now, datagram);
+    let done = push::rtx::push_rtx(s, entries, payloads, gaps, remembered, d.now, datagram);
     let answer = done.answer;
     let session = done.session;
     let to = answers::repair(out, at, answer);
@@ -132,7 +130,7 @@ fn poll(
     at: usize,
 ) -> Step {
     let mut payload = [0u8; 320];
-    let done = queue::poll::poll(s, entries, payloads, gaps, remembered, now, &mut payload);
+    let done = poll::poll(s, entries, payloads, gaps, remembered, now, &mut payload);
     let answer = done.answer;
     let session = done.session;
     let to = answers::poll(out, at, answer, &payload);
@@ -153,10 +151,10 @@ fn poll_nack(
     at: usize,
 ) -> Step {
     let mut numbers = [0u16; 4096];
-    let done = queue::nack::poll_nack(s, entries, payloads, gaps, remembered, now, &mut numbers);
+    let done = poll::nack::poll_nack(s, entries, payloads, gaps, remembered, now, &mut numbers);
     let answer = done.answer;
     let session = done.session;
-    let to = answers::poll_nack(out, at, answer, &numbers);
+    let to = lists::poll_nack(out, at, answer, &numbers);
     Step {
         held: Held::Some(session),
         at: to,
@@ -237,7 +235,7 @@ fn on_held(
     at: usize,
 ) -> Step {
     let Held::Some(s) = held else {
-        let to = output::line(out, at, b"no session");
+        let to = answers::line(out, at, b"no session");
         return Step { held, at: to };
     };
     let q = s.queue;
@@ -272,6 +270,7 @@ pub fn answer(
 ) -> Step {
     match call {
         Call::Open(f) => open(held, f, entries, payloads, gaps, remembered, out, at),
+        Call::PassedOver => Step { held, at },
         Call::Unreadable => unreadable(held, out, at),
         _ => on_held(
             held,
@@ -287,7 +286,7 @@ pub fn answer(
     }
 }
 
-pub fn unreadable(held: Held, out: &mut [u8], at: usize) -> Step {
-    let to = output::line(out, at, b"unreadable");
+fn unreadable(held: Held, out: &mut [u8], at: usize) -> Step {
+    let to = answers::line(out, at, b"unreadable");
     Step { held, at: to }
 }

@@ -34,16 +34,7 @@ fn answer(
     if line.len() < n {
         return Step { held, at: filled };
     }
-    if n == 0 {
-        return Step { held, at: filled };
-    }
-    if line[0] == b'#' {
-        return Step { held, at: filled };
-    }
     let at = output::room(out, filled);
-    if n == line.len() {
-        return calls::unreadable(held, out, at);
-    }
     let mut bytes = [0u8; 2048];
     let call = trace::read(&line[0..n], &mut bytes);
     calls::answer(

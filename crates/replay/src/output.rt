@@ -22,20 +22,3 @@ pub fn room(out: &[u8], at: usize) -> usize {
     write(out, at);
     0
 }
-
-pub fn end(out: &mut [u8], at: usize) -> usize {
-    trace::put::text(out, at, b"\n")
-}
-
-// A line of a fixed text.
-pub fn line(out: &mut [u8], at: usize, text: &[u8]) -> usize {
-    let behind = trace::put::text(out, at, text);
-    end(out, behind)
-}
-
-// A line of a text and a number.
-pub fn number_line(out: &mut [u8], at: usize, text: &[u8], n: u64) -> usize {
-    let behind = trace::put::text(out, at, text);
-    let last = trace::put::number(out, behind, n);
-    end(out, last)
-}

@@ -1,2 +1,4 @@
 -- What the contracts of `trace` cite.
 pub mod Field
+pub mod Line
+pub mod Text

@@ -1,11 +1,15 @@
 // Fields of a line: where they end, decimal numbers, hexadecimal bytes.
 ghost use mathlib.Core.Path.{_≡_};
-ghost use mathlib.Core.Bool.{true};
-ghost use Prim.Native.Nat.{ℕ, _*_, _≤_};
-ghost use lib.ListN.{length, take};
+ghost use mathlib.Core.Bool.{true, cond};
+ghost use mathlib.Core.Option.{none, some};
+ghost use Prim.Native.Nat.{_+_, _*_, _≤_};
+ghost use lib.ListN.{length, drop};
+ghost use Rattle.bytes.specs.Bytes.{indexOf};
 ghost use Rattle.rtp.specs.declared.opt.Opt.the-variants.{Some};
-ghost use Rattle.trace.specs.declared.field.OptSize.the-variants.{Size};
-ghost use Rattle.trace.specs.Field.{withDigit, digitsOf, numberOf, nibbleOf, areNibbles, octetsOf, hexSize, hexOctets};
+ghost use Rattle.trace.specs.Field.{withDigit, digitsOf, numberOf, numbersOf, nibbleOf, areNibbles, octetsOf};
+ghost use Rattle.trace.specs.Field.{hexIn, sizeOf, bytesOf};
+ghost use Rattle.words.specs.Words.{over};
+ghost use Rattle.trace.specs.Line.{after};
 use rtp::opt::Opt;
 
 const BLANK: u8 = b' ';
@@ -19,7 +23,7 @@ pub enum OptSize {
 // The place of the first blank at or after `from`, or the length.
 pub fn end(s: &[u8], from: usize) -> usize
     requires { ⌜ from ≤ length (now s) ⌝ }
-    ensures { λ r. ⌜ (from ≤ r) × (r ≤ length (now (s .entry))) ⌝ }
+    ensures { λ r. ⌜ (r ≡ from + indexOf 32 (drop from (now (s .entry)))) × (r ≤ length (now (s .entry))) ⌝ }
 {
     bytes::scan::find(s, from, s.len(), BLANK)
 }
@@ -81,7 +85,9 @@ pub fn number(s: &[u8]) -> Opt
 }
 
 // Whether the rest of a line, from the blank before its first field, is as many numbers as there are places: they are put there.
-pub fn are_numbers(rest: &[u8], values: &mut [u64]) -> bool {
+pub fn are_numbers(rest: &[u8], values: &mut [u64]) -> bool
+    ensures { λ r. ⌜ cond r (some (now (values .exit))) none ≡ numbersOf (length (now (values .entry))) (after (now (rest .entry))) ⌝ }
+{
     let mut from = 0;
     let mut i = 0;
     while i < values.len() {
@@ -121,35 +127,41 @@ fn nibble(b: u8) -> u8
     16
 }
 
-// Whether s is two digits for each place of `out`, which gets their bytes.
-fn decode(s: &[u8], out: &mut [u8]) -> bool
-    requires { ⌜ length (now s) ≡ 2 * length (now out) ⌝ }
+fn are_nibbles(s: &[u8]) -> bool
     ensures { λ r. ⌜ r ≡ areNibbles (now (s .entry)) ⌝ }
-    ensures { λ r. ⌜ (r ≡ true → now (out .exit) ≡ octetsOf (now (s .entry))) ⌝ }
 {
     let mut i = 0;
-    while i < out.len() {
-        let high = nibble(s[2 * i]);
-        let low = nibble(s[2 * i + 1]);
-        if 15 < high {
+    while i < s.len() {
+        if 15 < nibble(s[i]) {
             return false;
         }
-        if 15 < low {
-            return false;
-        }
-        out[i] = 16 * high + low;
         i += 1;
     }
     true
 }
 
+// Puts the byte of each two digits of s into `out`.
+fn decode(s: &[u8], out: &mut [u8])
+    requires { ⌜ length (now s) ≡ 2 * length (now out) ⌝ }
+    requires { ⌜ areNibbles (now s) ≡ true ⌝ }
+    ensures { λ _. ⌜ now (out .exit) ≡ over (octetsOf (now (s .entry))) (now (out .entry)) ⌝ }
+{
+    let mut i = 0;
+    while i < out.len() {
+        let high = nibble(s[2 * i]);
+        let low = nibble(s[2 * i + 1]);
+        out[i] = 16 * high + low;
+        i += 1;
+    }
+}
+
 // The bytes of a HEX field go to the front of `out`; none where it is no such field, or has more bytes than `out`.
 pub fn octets(s: &[u8], out: &mut [u8]) -> OptSize
-    ensures { λ r. ⌜ r ≡ hexSize (now (s .entry)) (length (now (out .entry))) ⌝ }
-    ensures { λ r. ⌜ ((n : ℕ) → r ≡ Size n → take n (now (out .exit)) ≡ hexOctets (now (s .entry))) ⌝ }
+    ensures { λ r. ⌜ r ≡ sizeOf (hexIn (length (now (out .entry))) (now (s .entry))) ⌝ }
+    ensures { λ _. ⌜ now (out .exit) ≡ over (bytesOf (hexIn (length (now (out .entry))) (now (s .entry)))) (now (out .entry)) ⌝ }
 {
     if s.len() == 1 {
-        if s[0] == 45 {
+        if s[0] == b'-' {
             return OptSize::Size(0);
         }
         return OptSize::None;
@@ -164,8 +176,9 @@ pub fn octets(s: &[u8], out: &mut [u8]) -> OptSize
     if out.len() < size {
         return OptSize::None;
     }
-    if decode(s, &mut out[0..size]) {
-        return OptSize::Size(size);
+    if !are_nibbles(s) {
+        return OptSize::None;
     }
-    OptSize::None
+    decode(s, &mut out[0..size]);
+    OptSize::Size(size)
 }

@@ -1,9 +1,19 @@
 // The trace format (docs/TRACE.md): a line's bytes to a call, and the parts of an answer to bytes. No input and no output is done here.
+ghost use mathlib.Core.Path.{_≡_};
+ghost use mathlib.Core.Option.{some};
+ghost use lib.ListN.{length};
+ghost use Rattle.trace.specs.declared.Call.the-variants as Call;
+ghost use Rattle.trace.specs.Field.{numbersOf};
+ghost use Rattle.words.specs.Words.{over};
+ghost use Rattle.trace.specs.Line.{after, same, wordWithNow, wordOf, openWith, carryingCall, carryingWith, timedCall, timedWith, aloneWith, made, lineOf};
 use field::OptSize;
 use rtp::opt::Opt;
 
 mod field;
 pub mod put;
+
+// The longest line that is read, in bytes.
+const MOST: usize = 4095;
 
 // The fields of an `open`, of whatever size: the opening's checks are made by whoever makes the call.
 pub struct OpenFields {
@@ -29,6 +39,8 @@ pub struct Datagram {
 }
 
 pub enum Call {
+    PassedOver,
+    Unreadable,
     Open(OpenFields),
     Media(Datagram),
     Repair(Datagram),
@@ -39,62 +51,88 @@ pub enum Call {
     RtxStats,
     Highest,
     State,
-    Unreadable,
 }
 
-enum Word {
-    Open,
+// Calls with NOW and HEX.
+enum Carrying {
     Media,
     Repair,
+}
+
+// Calls with NOW alone.
+enum Timed {
     Poll,
     PollNack,
     TimeoutReceive,
     TimeoutNack,
+}
+
+// Calls with no fields.
+enum Alone {
     RtxStats,
     Highest,
     State,
+}
+
+enum Word {
+    Open,
+    Carrying(Carrying),
+    Timed(Timed),
+    Alone(Alone),
     None,
 }
 
-fn read_word_with_now(s: &[u8]) -> Word {
-    if check::same(s, b"media") {
-        return Word::Media;
+fn is_word(s: &[u8], word: &[u8]) -> bool
+    ensures { λ r. ⌜ r ≡ same (now (s .entry)) (now (word .entry)) ⌝ }
+{
+    check::same(s, word)
+}
+
+fn read_word_with_now(s: &[u8]) -> Word
+    ensures { λ r. ⌜ r ≡ wordWithNow (now (s .entry)) ⌝ }
+{
+    if is_word(s, b"media") {
+        return Word::Carrying(Carrying::Media);
     }
-    if check::same(s, b"repair") {
-        return Word::Repair;
+    if is_word(s, b"repair") {
+        return Word::Carrying(Carrying::Repair);
     }
-    if check::same(s, b"poll") {
-        return Word::Poll;
+    if is_word(s, b"poll") {
+        return Word::Timed(Timed::Poll);
     }
-    if check::same(s, b"poll_nack") {
-        return Word::PollNack;
+    if is_word(s, b"poll_nack") {
+        return Word::Timed(Timed::PollNack);
     }
-    if check::same(s, b"timeout_receive") {
-        return Word::TimeoutReceive;
+    if is_word(s, b"timeout_receive") {
+        return Word::Timed(Timed::TimeoutReceive);
     }
-    if check::same(s, b"timeout_nack") {
-        return Word::TimeoutNack;
+    if is_word(s, b"timeout_nack") {
+        return Word::Timed(Timed::TimeoutNack);
     }
     Word::None
 }
 
-fn read_word(s: &[u8]) -> Word {
-    if check::same(s, b"open") {
+fn read_word(s: &[u8]) -> Word
+    ensures { λ r. ⌜ r ≡ wordOf (now (s .entry)) ⌝ }
+{
+    if is_word(s, b"open") {
         return Word::Open;
     }
-    if check::same(s, b"rtx_stats") {
-        return Word::RtxStats;
+    if is_word(s, b"rtx_stats") {
+        return Word::Alone(Alone::RtxStats);
     }
-    if check::same(s, b"highest") {
-        return Word::Highest;
+    if is_word(s, b"highest") {
+        return Word::Alone(Alone::Highest);
     }
-    if check::same(s, b"state") {
-        return Word::State;
+    if is_word(s, b"state") {
+        return Word::Alone(Alone::State);
     }
     read_word_with_now(s)
 }
 
-fn open_fields(v: &[u64; 13]) -> OpenFields {
+fn open_fields(v: &[u64; 13]) -> OpenFields
+    ensures { λ r. ⌜ Call.Open r ≡ openWith (some (now (v .entry))) ⌝ }
+{
     OpenFields {
         mode: v[0],
         clock_rate: v[1],
@@ -112,7 +150,9 @@ fn open_fields(v: &[u64; 13]) -> OpenFields {
     }
 }
 
-fn read_open(rest: &[u8]) -> Call {
+fn read_open(rest: &[u8]) -> Call
+    ensures { λ r. ⌜ r ≡ openWith (numbersOf 13 (after (now (rest .entry)))) ⌝ }
+{
     let mut v = [0u64; 13];
     if field::are_numbers(rest, &mut v) {
         return Call::Open(open_fields(&v));
@@ -120,76 +160,98 @@ fn read_open(rest: &[u8]) -> Call {
     Call::Unreadable
 }
 
-enum OptDatagram {
-    None,
-    Some(Datagram),
+fn carrying_call(k: Carrying, d: Datagram) -> Call
+    ensures { λ r. ⌜ r ≡ carryingCall k d ⌝ }
+{
+    match k {
+        Carrying::Media => Call::Media(d),
+        Carrying::Repair => Call::Repair(d),
+    }
 }
 
-// An instant and HEX.
-fn read_datagram(rest: &[u8], bytes: &mut [u8]) -> OptDatagram {
+fn read_carrying(k: Carrying, rest: &[u8], bytes: &mut [u8]) -> Call
+    ensures { λ r. ⌜ r ≡ carryingWith k (length (now (bytes .entry))) (after (now (rest .entry))) .call ⌝ }
+    ensures { λ _. ⌜ now (bytes .exit) ≡ over (carryingWith k (length (now (bytes .entry))) (after (now (rest .entry))) .datagram) (now (bytes .entry)) ⌝ }
+{
     if rest.len() == 0 {
-        return OptDatagram::None;
+        return Call::Unreadable;
     }
     let end = field::end(rest, 1);
     if end == rest.len() {
-        return OptDatagram::None;
+        return Call::Unreadable;
     }
     let Opt::Some(now) = field::number(&rest[1..end]) else {
-        return OptDatagram::None;
+        return Call::Unreadable;
     };
     let OptSize::Size(size) = field::octets(&rest[end + 1..], bytes) else {
-        return OptDatagram::None;
-    };
-    OptDatagram::Some(Datagram { now, size })
-}
-
-fn with_datagram(w: Word, rest: &[u8], bytes: &mut [u8]) -> Call {
-    let OptDatagram::Some(d) = read_datagram(rest, bytes) else {
         return Call::Unreadable;
     };
-    match w {
-        Word::Media => Call::Media(d),
-        Word::Repair => Call::Repair(d),
-        _ => Call::Unreadable,
+    let d = Datagram { now, size };
+    carrying_call(k, d)
+}
+
+fn timed_call(t: Timed, now: u64) -> Call
+    ensures { λ r. ⌜ r ≡ timedCall t now ⌝ }
+{
+    match t {
+        Timed::Poll => Call::Poll(now),
+        Timed::PollNack => Call::PollNack(now),
+        Timed::TimeoutReceive => Call::TimeoutReceive(now),
+        Timed::TimeoutNack => Call::TimeoutNack(now),
     }
 }
 
-fn with_now(w: Word, rest: &[u8]) -> Call {
+fn read_timed(t: Timed, rest: &[u8]) -> Call
+    ensures { λ r. ⌜ r ≡ timedWith t (numbersOf 1 (after (now (rest .entry)))) ⌝ }
+{
     let mut v = [0u64; 1];
-    if !field::are_numbers(rest, &mut v) {
-        return Call::Unreadable;
+    if field::are_numbers(rest, &mut v) {
+        return timed_call(t, v[0]);
     }
-    let now = v[0];
-    match w {
-        Word::Poll => Call::Poll(now),
-        Word::PollNack => Call::PollNack(now),
-        Word::TimeoutReceive => Call::TimeoutReceive(now),
-        Word::TimeoutNack => Call::TimeoutNack(now),
-        _ => Call::Unreadable,
-    }
+    Call::Unreadable
 }
 
-fn alone(w: Word, rest: &[u8]) -> Call {
+fn read_alone(a: Alone, rest: &[u8]) -> Call
+    ensures { λ r. ⌜ r ≡ aloneWith a (after (now (rest .entry))) ⌝ }
+{
     if 0 < rest.len() {
         return Call::Unreadable;
     }
+    match a {
+        Alone::RtxStats => Call::RtxStats,
+        Alone::Highest => Call::Highest,
+        Alone::State => Call::State,
+    }
+}
+
+fn read_call(w: Word, rest: &[u8], bytes: &mut [u8]) -> Call
+    ensures { λ r. ⌜ r ≡ made w (length (now (bytes .entry))) (after (now (rest .entry))) .call ⌝ }
+    ensures { λ _. ⌜ now (bytes .exit) ≡ over (made w (length (now (bytes .entry))) (after (now (rest .entry))) .datagram) (now (bytes .entry)) ⌝ }
+{
     match w {
-        Word::RtxStats => Call::RtxStats,
-        Word::Highest => Call::Highest,
-        Word::State => Call::State,
-        _ => Call::Unreadable,
+        Word::Open => read_open(rest),
+        Word::Carrying(k) => read_carrying(k, rest, bytes),
+        Word::Timed(t) => read_timed(t, rest),
+        Word::Alone(a) => read_alone(a, rest),
+        Word::None => Call::Unreadable,
     }
 }
 
 // The call that a line is, without its line feed. A datagram's bytes go to the front of the lent buffer.
-pub fn read(line: &[u8], bytes: &mut [u8]) -> Call {
+pub fn read(line: &[u8], bytes: &mut [u8]) -> Call
+    ensures { λ r. ⌜ r ≡ lineOf (length (now (bytes .entry))) (now (line .entry)) .call ⌝ }
+    ensures { λ _. ⌜ now (bytes .exit) ≡ over (lineOf (length (now (bytes .entry))) (now (line .entry)) .datagram) (now (bytes .entry)) ⌝ }
+{
+    if line.len() == 0 {
+        return Call::PassedOver;
+    }
+    if line[0] == b'#' {
+        return Call::PassedOver;
+    }
+    if MOST < line.len() {
+        return Call::Unreadable;
+    }
     let end = field::end(line, 0);
     let w = read_word(&line[0..end]);
-    let rest = &line[end..];
-    match w {
-        Word::Open => read_open(rest),
-        Word::Media | Word::Repair => with_datagram(w, rest, bytes),
-        Word::Poll | Word::PollNack | Word::TimeoutReceive | Word::TimeoutNack => with_now(w, rest),
-        _ => alone(w, rest),
-    }
+    read_call(w, &line[end..], bytes)
 }

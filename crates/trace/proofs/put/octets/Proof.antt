@@ -1,92 +1,96 @@
--- `octets` is safe and ends: the place stays within the bytes.
-use Prim.Native.Nat.{_≤_, _-_}
-use mathlib.Core.Path.{_≡_}
+-- `octets` meets its contract: the blank is stored before the digits made behind it.
+use Prim.Native.Nat.{_+_, _*_, _≤_}
+use Rattle.trace.proofs.Decimal.{length-pairs, hex-none, hex-pairs}
+use Rattle.trace.proofs.Outputs.{left-out, field-in, part-put}
+use Rattle.trace.specs.Text.{field, hex, pairs}
 use borrow.Author.Needs.{needs}
 use lib.ListN.{length}
+use mathlib.Core.Path.{_≡_}
+use native.Mathlib.Omega.{arith}
 use Rattle.trace.proofs.put.octets.Statement.{statement}
 use Rattle.trace.proofs.put.octets.Tie as tie
 
-abbrev Inv-loop : tie.InvT-loop
-Inv-loop out₀ at s to₀ i₀ out to i = (i ≤ length s) × (length out ≡ length out₀)
+slice-aggregate-field : tie.Need-slice-aggregate-field
+slice-aggregate-field c = search needs
 
-abbrev μ-loop : tie.MeasureT-loop
-μ-loop out₀ at s to₀ i₀ out to i = length s - i
+field-requires : tie.Need-field-requires
+field-requires c κs = search needs
 
-slice-aggregate-text : tie.Need-slice-aggregate-text Inv-loop μ-loop
-slice-aggregate-text c = search needs
-
-text-requires : tie.Need-text-requires Inv-loop μ-loop
-text-requires c κs = search needs
-
-same-length : tie.Need-same-length Inv-loop μ-loop
+same-length : tie.Need-same-length
 same-length c = search needs
 
-returns : tie.Need-returns Inv-loop μ-loop
-returns c = search needs
+returns : tie.Need-returns
+returns c =
+    let a = c .before .before .before .before .before .before .before .before .args in
+    cc (hex-none (a .s .now) (omega arith))
 
-slice-aggregate-text-2 : tie.Need-slice-aggregate-text-2 Inv-loop μ-loop
-slice-aggregate-text-2 c = search needs
+returns-2 : tie.Need-returns-2
+returns-2 c =
+    let a = c .before .before .before .before .args in
+    left-out (a .out .now) (a .at) (field (hex (a .s .now))) (omega arith)
 
-text-requires-2 : tie.Need-text-requires-2 Inv-loop μ-loop
-text-requires-2 c κs = search needs
+add-first : tie.Need-add-first
+add-first c = search needs
 
-loop-holds : tie.Need-loop-holds Inv-loop μ-loop
-loop-holds c = search needs
+sub-if3 : tie.Need-sub-if3
+sub-if3 c = search needs
 
-shared-slice-read-glyph : tie.Need-shared-slice-read-glyph Inv-loop μ-loop
-shared-slice-read-glyph c = search needs
+returns-3 : tie.Need-returns-3
+returns-3 c =
+    let a = c .before .before .before .before .before .args in
+    let s = a .s .now in
+    rw (hex-pairs s (omega arith)) (left-out (a .out .now) (a .at) (field (pairs s)) (omega (arith, length-pairs s)))
 
-glyph-requires : tie.Need-glyph-requires Inv-loop μ-loop
-glyph-requires c κs = search needs
+sub-encode : tie.Need-sub-encode
+sub-encode c = search needs
 
-shared-slice-read-glyph-2 : tie.Need-shared-slice-read-glyph-2 Inv-loop μ-loop
-shared-slice-read-glyph-2 c = search needs
+part-encode-start : tie.Need-part-encode-start
+part-encode-start c = search needs
 
-glyph-requires-2 : tie.Need-glyph-requires-2 Inv-loop μ-loop
-glyph-requires-2 c κs = search needs
+part-encode-end : tie.Need-part-encode-end
+part-encode-end c = search needs
 
-slice-aggregate-text-3 : tie.Need-slice-aggregate-text-3 Inv-loop μ-loop
-slice-aggregate-text-3 c = search needs
+encode-requires : tie.Need-encode-requires
+encode-requires c κs = search needs
 
-text-requires-3 : tie.Need-text-requires-3 Inv-loop μ-loop
-text-requires-3 c κs = search needs
+slice-write-out : tie.Need-slice-write-out
+slice-write-out c = search needs
 
-add-i : tie.Need-add-i Inv-loop μ-loop
-add-i c = search needs
+mul-result : tie.Need-mul-result
+mul-result c = search needs
 
-loop-less : tie.Need-loop-less Inv-loop μ-loop
-loop-less c = search needs
+add-result : tie.Need-add-result
+add-result c = search needs
 
-loop-again : tie.Need-loop-again Inv-loop μ-loop
-loop-again c = search needs
-
-same-length-2 : tie.Need-same-length-2 Inv-loop μ-loop
+same-length-2 : tie.Need-same-length-2
 same-length-2 c = search needs
 
-returns-2 : tie.Need-returns-2 Inv-loop μ-loop
-returns-2 c = search needs
+returns-4 : tie.Need-returns-4
+returns-4 c =
+    let a = c .before .before .before .before .before .before .before .before .before .args in
+    let s = a .s .now in
+    let n : a .at + 1 + 2 * length s ≡ a .at + 1 + length (pairs s) = omega (arith, length-pairs s) in
+    let fits : a .at + 1 + length (pairs s) ≤ length (a .out .now) = omega (arith, length-pairs s) in
+    rw (hex-pairs s (omega arith), n) (field-in (a .out .now) (a .at) (pairs s) _ fits (part-put (a .out .now) (a .at + 1) (pairs s) _ fits (c .before .before .encode .ensures)))
 
 pub octets-spec : {M : Type 1} → statement M
 octets-spec =
     tie.close
     (tie.spec
-    Inv-loop
-    μ-loop
-    slice-aggregate-text
-    text-requires
+    slice-aggregate-field
+    field-requires
     same-length
     returns
-    slice-aggregate-text-2
-    text-requires-2
-    loop-holds
-    shared-slice-read-glyph
-    glyph-requires
-    shared-slice-read-glyph-2
-    glyph-requires-2
-    slice-aggregate-text-3
-    text-requires-3
-    add-i
-    loop-less
-    loop-again
+    returns-2
+    add-first
+    sub-if3
+    returns-3
+    sub-encode
+    part-encode-start
+    part-encode-end
+    encode-requires
+    slice-write-out
+    mul-result
+    add-result
     same-length-2
-    returns-2)
+    returns-4)

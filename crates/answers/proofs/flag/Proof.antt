@@ -1,0 +1,44 @@
+-- `flag` meets its contract.
+use Rattle.answers.specs.Lines.{flagText}
+use borrow.Author.Needs.{needs}
+use Rattle.answers.proofs.flag.Statement.{statement}
+use Rattle.answers.proofs.flag.Tie as tie
+
+slice-aggregate-text : tie.Need-slice-aggregate-text
+slice-aggregate-text c = search needs
+
+text-requires : tie.Need-text-requires
+text-requires c κs = search needs
+
+same-length : tie.Need-same-length
+same-length c = search needs
+
+returns : tie.Need-returns
+unfolding flagText
+returns c = rw (c .before .before .before .before .before .if1 .taken) (c .before .before .text .ensures)
+
+slice-aggregate-text-2 : tie.Need-slice-aggregate-text-2
+slice-aggregate-text-2 c = search needs
+
+text-requires-2 : tie.Need-text-requires-2
+text-requires-2 c κs = search needs
+
+same-length-2 : tie.Need-same-length-2
+same-length-2 c = search needs
+
+returns-2 : tie.Need-returns-2
+unfolding flagText
+returns-2 c = rw (c .before .before .before .before .before .if1 .left) (c .before .before .text2 .ensures)
+
+pub flag-spec : {M : Type 1} → statement M
+flag-spec =
+    tie.close
+    (tie.spec
+    slice-aggregate-text
+    text-requires
+    same-length
+    returns
+    slice-aggregate-text-2
+    text-requires-2
+    same-length-2
+    returns-2)

@@ -1,0 +1,21 @@
+-- `glyph` meets its contract: a letter begins at 10.
+use borrow.Author.Needs.{needs}
+use borrow.Author.Tests.{lt-ltb, le-ltb}
+use native.Mathlib.Omega.{arith}
+use Rattle.trace.proofs.put.glyph.Statement.{statement}
+use Rattle.trace.proofs.put.glyph.Tie as tie
+
+add-result : tie.Need-add-result
+add-result c = search needs
+
+add-result-2 : tie.Need-add-result-2
+add-result-2 c = search needs
+
+returns : tie.Need-returns
+returns c = rw (lt-ltb (c .before .args .x) 10 (omega arith))
+
+returns-2 : tie.Need-returns-2
+returns-2 c = rw (le-ltb (c .before .args .x) 10 (omega arith))
+
+pub glyph-spec : {M : Type 1} → statement M
+glyph-spec = tie.close (tie.spec add-result add-result-2 returns returns-2)
