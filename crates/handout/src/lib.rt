@@ -101,5 +101,5 @@ fn remaining(last_instant: u64, delta: u64, delay: u64, now: u64) -> u64
     }
     let due = last_instant + delay;
     let passed = delta + now;
-    if passed <= due { due - passed } else { 0 }
+    rtp::saturating_sub(due, passed)
 }

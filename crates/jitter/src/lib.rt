@@ -1,6 +1,6 @@
 // Jitter (004): clock rate and running jitter, two f64, which go into `update` and come back changed.
 ghost use mathlib.Core.Path.{_≡_};
-ghost use Prim.Native.Nat.{ℕ, _-_, _≤_, _<_, _^_};
+ghost use Prim.Native.Nat.{ℕ, _≤_, _<_, _^_};
 ghost use lib.Dec.{T};
 ghost use lib.Ieee.Positive.{positive};
 ghost use Rattle.jitter.specs.Interarrival.{newJitter, magnitude, sampled, jitterUpdated, jitterGet, jitterWithin, jitterInRange};
@@ -39,7 +39,8 @@ impl Jitter {
             return self;
         }
         // Rj - Ri
-        let recv_delta = durations::as_secs_f64(elapsed(now, last_rtp_instant)) * self.clock_rate;
+        let recv_delta = durations::as_secs_f64(rtp::saturating_sub(now, last_rtp_instant))
+            * self.clock_rate;
         // Sj - Si
         let rtp_ts_delta = std::num::nearest_u64_to_f64(ts) - std::num::nearest_u64_to_f64(last_ts);
         // Near zero deltas come from packets that were received in one go.
@@ -87,12 +88,6 @@ impl Jitter {
             jitter: self.jitter + (d - self.jitter) / alpha,
         }
     }
-}
-
-fn elapsed(now: u64, since: u64) -> u64
-    ensures { λ r. ⌜ r ≡ now - since ⌝ }
-{
-    if since <= now { now - since } else { 0 }
 }
 
 // Rust's `f64::abs`.

@@ -3,7 +3,7 @@
 ghost use mathlib.Core.Path.{_≡_};
 ghost use mathlib.Core.Bool.{true, false};
 ghost use mathlib.Core.List.{map};
-ghost use Prim.Native.Nat.{_+_, _-_, _*_, _≤_, _<_};
+ghost use Prim.Native.Nat.{_+_, _*_, _≤_, _<_};
 ghost use lib.ListN.{length, drop};
 ghost use Rattle.words.specs.Words.{over};
 ghost use Rattle.words.specs.Blocks.{laid};
@@ -97,13 +97,6 @@ pub fn poll_nacks(s: &mut [u64], n: usize, now: u64, t: NackTimings, out: &mut [
     count
 }
 
-// How long it is from `now` until `at`.
-fn until(at: u64, now: u64) -> u64
-    ensures { λ r. ⌜ r ≡ at - now ⌝ }
-{
-    if now < at { at - now } else { 0 }
-}
-
 // The least time until a gap is due.
 pub fn timeout_nacks(s: &[u64], n: usize, now: u64, t: NackTimings) -> Opt
     requires { ⌜ GAP-WORDS * n ≤ length (s .now) ⌝ }
@@ -115,7 +108,7 @@ pub fn timeout_nacks(s: &[u64], n: usize, now: u64, t: NackTimings) -> Opt
     let mut i = n;
     while 0 < i {
         i -= 1;
-        let left = until(due_at(super::read(s, i), t), now);
+        let left = rtp::saturating_sub(due_at(super::read(s, i), t), now);
         timeout = rtp::opt::opt_min(Opt::Some(left), timeout);
     }
     timeout

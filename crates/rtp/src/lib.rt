@@ -1,7 +1,7 @@
 // The numbers of RTP, after the Rust's rtp/mod.rs (006): each kind has a type of its own, so that a 16-bit number is never
 // taken for an extended one.
 ghost use mathlib.Core.Path.{_≡_};
-ghost use Prim.Native.Nat.{ℕ, _+_, _%_, _^_, _≤_, _<_};
+ghost use Prim.Native.Nat.{ℕ, _+_, _-_, _%_, _^_, _≤_, _<_};
 ghost use Rattle.rtp.specs.Numbers as Numbers;
 ghost use Rattle.rtp.specs.Numbers.{apart, guessed, Extends};
 
@@ -56,6 +56,13 @@ impl ExtendedRtpTimestamp {
     {
         ExtendedRtpTimestamp(wrapping_counter_to_u64_counter(self.0, timestamp.0 as u64, 32))
     }
+}
+
+// 0 where b is the greater.
+pub fn saturating_sub(a: u64, b: u64) -> u64
+    ensures { λ r. ⌜ r ≡ a - b ⌝ }
+{
+    if b < a { a - b } else { 0 }
 }
 
 pub fn abs_diff(a: u64, b: u64) -> u64

@@ -199,12 +199,6 @@ pub fn counts(c: Counters, timestamp: u64, number: u64, size: u64, waits: bool, 
     raised(c, size, waits, full)
 }
 
-fn step(h: u64, number: u64) -> u64
-    ensures { λ r. ⌜ r ≡ number - h ⌝ }
-{
-    if h < number { number - h } else { 0 }
-}
-
 // 12 with so many gaps open and a step of s above the highest.
 fn gaps_full(max_gaps: usize, opened: usize, s: u64) -> u64
     requires { ⌜ opened ≤ «max_gaps» ⌝ }
@@ -226,7 +220,10 @@ pub fn gaps(settings: Settings, opened: usize, number: u64, place: Place) -> u64
     ensures { λ r. ⌜ ((l : List Records.Gap) → length l ≡ opened → r ≡ Table.refuseIf (Table.tooManyGaps settings l number (Spec.place place)) Refusals.GAPS-FULL) ⌝ }
 {
     match place {
-        Place::Near(h) => gaps_full(settings.max_gaps, opened, step(h, number)),
+        Place::Near(h) => {
+            let s = rtp::saturating_sub(number, h);
+            gaps_full(settings.max_gaps, opened, s)
+        }
         Place::First => 0,
         Place::Far(_) => 0,
         Place::Fills => 0,

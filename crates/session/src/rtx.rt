@@ -1,7 +1,7 @@
 // `push_rtx` (000) on the records that go by value: what is counted and sampled, and which check turns a repair back.
 ghost use mathlib.Core.Path.{_≡_};
 ghost use mathlib.Core.List.{_∷_};
-ghost use Prim.Native.Nat.{_+_, _-_, _≤_};
+ghost use Prim.Native.Nat.{_+_, _≤_};
 ghost use Rattle.durations.specs.Seconds.{largest};
 ghost use Rattle.rtx_state.specs.Repair as Repair;
 ghost use Rattle.packet_loss.specs.Loss as Loss;
@@ -20,20 +20,13 @@ pub enum Fate {
     Redundant,
 }
 
-// How long it is since `then`.
-fn since(now: u64, then: u64) -> u64
-    ensures { λ r. ⌜ r ≡ now - then ⌝ }
-{
-    if then < now { now - then } else { 0 }
-}
-
 // One more sample, if the number was NACKed just once, at this instant.
 fn sampled(state: RtxState, now: u64, nacked: Opt) -> RtxState
     ensures { λ r. ⌜ r ≡ Spec.sampledAt now nacked state ⌝ }
 {
     match nacked {
         Opt::None => state,
-        Opt::Some(i) => state.update_rtt(since(now, i)),
+        Opt::Some(i) => state.update_rtt(rtp::saturating_sub(now, i)),
     }
 }
 

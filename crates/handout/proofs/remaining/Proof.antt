@@ -1,5 +1,5 @@
--- `remaining`: the branches are those of the definition; where the difference would be below 0, it is 0.
-use native.Mathlib.Omega.{arith}
+-- `remaining`: the test is that of the definition.
+use mathlib.Core.Path.{_∙_}
 use borrow.Author.Needs.{needs}
 use borrow.Author.Tests.{le-leb, lt-leb}
 use Rattle.handout.specs.Timeout.{remainingOf}
@@ -16,13 +16,12 @@ add-due c = search needs
 add-passed : tie.Need-add-passed
 add-passed c = search needs
 
+saturating-sub-requires : tie.Need-saturating-sub-requires
+saturating-sub-requires c κs = search needs
+
 returns-2 : tie.Need-returns-2
 unfolding remainingOf
-returns-2 c = simp (le-leb _ _ (c .before .if1 .left))
-
-returns-3 : tie.Need-returns-3
-unfolding remainingOf
-returns-3 c = simp (le-leb _ _ (c .before .if1 .left)) (omega arith)
+returns-2 c = c .saturating-sub .ensures ∙ simp (le-leb _ _ (c .before .if1 .left))
 
 pub remaining-spec : {M : Type 1} → statement M
-remaining-spec = tie.close (tie.spec returns add-due add-passed returns-2 returns-3)
+remaining-spec = tie.close (tie.spec returns add-due add-passed saturating-sub-requires returns-2)

@@ -27,7 +27,7 @@ both c k e =
 -- what the code works out, as the definition names it
 recv-is : (c : tie.After-as-secs-f64) → mul binary64 (c .as-secs-f64 .result) (c .before .before .before .args .self .«clock_rate») ≡ recvDelta (c .before .before .before .args .self) (c .before .before .before .args .now) (c .before .before .before .args .last-rtp-instant)
 unfolding recvDelta
-recv-is c = ap (λ (x : Float). mul binary64 x (c .before .before .before .args .self .«clock_rate»)) (c .as-secs-f64 .ensures ∙ ap asSecsF64 (c .before .elapsed .ensures))
+recv-is c = ap (λ (x : Float). mul binary64 x (c .before .before .before .args .self .«clock_rate»)) (c .as-secs-f64 .ensures ∙ ap asSecsF64 (c .before .saturating-sub .ensures))
 
 step-is : (c : tie.After-nearest-u64-to-f642) → sub binary64 (c .before .nearest-u64-to-f64 .result) (c .nearest-u64-to-f642 .result) ≡ rtpTsDelta (c .before .before .before .before .before .before .args .timestamp .0) (c .before .before .before .before .before .before .args .last-rtp-timestamp .0)
 unfolding rtpTsDelta
@@ -48,8 +48,8 @@ returns c =
     let a = c .before .args in
     both (c .before) (a .self) (updated-same (a .self) _ _ (a .now) (a .timestamp .0) (a .last-rtp-instant) (a .last-rtp-timestamp .0) refl refl (c .if1 .taken))
 
-elapsed-requires : tie.Need-elapsed-requires
-elapsed-requires c κs = search needs
+saturating-sub-requires : tie.Need-saturating-sub-requires
+saturating-sub-requires c κs = search needs
 
 as-secs-f64-requires : tie.Need-as-secs-f64-requires
 as-secs-f64-requires c κs = search needs
@@ -98,7 +98,7 @@ update-spec =
     tie.close
     (tie.spec
     returns
-    elapsed-requires
+    saturating-sub-requires
     as-secs-f64-requires
     nearest-u64-to-f64-requires
     nearest-u64-to-f64-requires-2

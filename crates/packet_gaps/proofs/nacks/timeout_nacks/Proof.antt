@@ -32,8 +32,8 @@ due-at-requires c κs = let s = c .before .before .before .before in
     let r = c .read in
     (read-fits (s .args .s .now) (s .args .n) (l .i - 1) (gap (r .result)) (r .ensures) (omega arith) (s .pre .1 .0), s .pre .1 .1)
 
-until-requires : tie.Need-until-requires Inv-loop μ-loop
-until-requires c κs = search needs
+saturating-sub-requires : tie.Need-saturating-sub-requires Inv-loop μ-loop
+saturating-sub-requires c κs = search needs
 
 opt-min-requires : tie.Need-opt-min-requires Inv-loop μ-loop
 opt-min-requires c κs = search needs
@@ -45,7 +45,7 @@ loop-again : tie.Need-loop-again Inv-loop μ-loop
 loop-again c = let s = c .before .before .before .before .before .before .before in
     let l = c .before .before .before .before .before .loop in
     let r = c .before .before .before .read in
-    (timeout-step (s .args .s .now) (s .args .n) (l .i - 1) (gap (r .result)) (r .ensures) (omega arith) (s .args .t) (s .args .now) _ _ _ _ (l .i) (c .opt-min .ensures) (c .before .until .ensures) (c .before .before .due-at .ensures) (l .inv .0) (omega arith), search needs)
+    (timeout-step (s .args .s .now) (s .args .n) (l .i - 1) (gap (r .result)) (r .ensures) (omega arith) (s .args .t) (s .args .now) _ _ _ _ (l .i) (c .opt-min .ensures) (c .before .saturating-sub .ensures) (c .before .before .due-at .ensures) (l .inv .0) (omega arith), search needs)
 
 returns : tie.Need-returns Inv-loop μ-loop
 returns c = let s = c .before .before .before in
@@ -63,7 +63,7 @@ timeout-nacks-spec =
     sub-i
     read-requires
     due-at-requires
-    until-requires
+    saturating-sub-requires
     opt-min-requires
     loop-less
     loop-again

@@ -9,8 +9,8 @@ use Rattle.session.proofs.push.gaps.Tie as tie
 enum-known-place : tie.Need-enum-known-place
 enum-known-place c = search needs
 
-step-requires : tie.Need-step-requires
-step-requires c κs = search needs
+saturating-sub-requires : tie.Need-saturating-sub-requires
+saturating-sub-requires c κs = search needs
 
 gaps-full-requires : tie.Need-gaps-full-requires
 gaps-full-requires c κs = search needs
@@ -29,7 +29,7 @@ enum-told-4 c = search needs
 
 returns : tie.Need-returns
 unfolding tooManyGaps place
-returns c = λ l e. rw (c .before .before .before .place .given .1, e) (c .gaps-full .ensures ∙ rw (c .before .step .ensures))
+returns c = λ l e. rw (c .before .before .before .place .given .1, e) (c .gaps-full .ensures ∙ rw (c .before .saturating-sub .ensures))
 
 returns-2 : tie.Need-returns-2
 unfolding tooManyGaps place refuseIf
@@ -52,7 +52,7 @@ gaps-spec =
     tie.close
     (tie.spec
     enum-known-place
-    step-requires
+    saturating-sub-requires
     gaps-full-requires
     enum-told
     enum-told-2

@@ -10,8 +10,8 @@ enum-told c = search needs
 enum-known-nacked : tie.Need-enum-known-nacked
 enum-known-nacked c = search needs
 
-since-requires : tie.Need-since-requires
-since-requires c κs = search needs
+saturating-sub-requires : tie.Need-saturating-sub-requires
+saturating-sub-requires c κs = search needs
 
 update-rtt-requires : tie.Need-update-rtt-requires
 update-rtt-requires c κs = search needs
@@ -27,4 +27,4 @@ returns-2 c = cc
 pub sampled-spec : {M : Type 1} → statement M
 sampled-spec =
     tie.close
-    (tie.spec enum-told enum-known-nacked since-requires update-rtt-requires returns returns-2)
+    (tie.spec enum-told enum-known-nacked saturating-sub-requires update-rtt-requires returns returns-2)
