@@ -19,7 +19,6 @@ use Rattle.rtp.specs.declared.opt.Opt.{Opt}
 use Rattle.rtp.specs.declared.opt.Opt.the-variants as Opt
 use Rattle.stats.specs.declared.OptRtxStats.{OptRtxStats}
 use Rattle.stats.specs.declared.OptRtxStats.the-variants as OptRtxStats
-use Rattle.stats.specs.declared.RtpInboundRtxStats.{RtpInboundRtxStats}
 use Rattle.trace.specs.Text.{ascii, field, decimal, optDecimal, hex}
 use Rattle.answers.specs.Lines.{line, numberLine, lineFeed, flagText}
 

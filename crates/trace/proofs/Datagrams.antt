@@ -1,6 +1,6 @@
 -- A datagram's line: HEX is the last field, since it holds no blank.
-use mathlib.Core.Path.{_≡_, refl, ap, _∙_}
-use mathlib.Core.Bool.{Bool, true, false, cond, _&&_, false≢true}
+use mathlib.Core.Path.{_≡_, refl, ap}
+use mathlib.Core.Bool.{Bool, true, false, _&&_, false≢true}
 use mathlib.Core.List.{List, [], _∷_}
 use mathlib.Core.Option.{Option, none, some}
 use Prim.Native.Nat.{ℕ, _+_, _<_, _≤_}
@@ -15,7 +15,7 @@ use Rattle.words.specs.Words.{over}
 use Rattle.trace.specs.declared.Call.the-variants as Call
 use Rattle.trace.specs.declared.Carrying.{Carrying}
 use Rattle.trace.specs.Field.{nibbleOf, areNibbles, hexOf, fitting, hexIn, numberOf}
-use Rattle.trace.specs.Line.{Line, Fields, split, after, plain, carried, carryingWith}
+use Rattle.trace.specs.Line.{Line, split, after, plain, carried, carryingWith}
 use Rattle.trace.proofs.Fields.{after-split, after-step, after-end}
 use Rattle.trace.proofs.Tests.{both}
 

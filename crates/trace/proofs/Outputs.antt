@@ -1,14 +1,13 @@
 -- Text put into an output, from what is written into its bytes.
-use mathlib.Core.Path.{_≡_, refl, sym, ap, _∙_}
-use mathlib.Core.Bool.{cond}
+use mathlib.Core.Path.{_≡_, sym, _∙_}
 use mathlib.Core.List.{List, [], _∷_, _++_, append-assoc}
-use Prim.Native.Nat.{ℕ, zero, suc, _+_, _-_, _≤_, _<_}
+use Prim.Native.Nat.{ℕ, suc, _+_, _-_, _≤_, _<_}
 use native.Mathlib.Numerals.{add-one}
 use native.Mathlib.Omega.{arith}
 use borrow.Author.Tests.{le-leb, lt-leb}
 use borrow.Rule.Slice.PartMut.{midOf, putMid}
-use lib.ListN.{length, take, drop, set, length-drop, length-take}
-use lib.Seq.{take-length, take-all, take-set-lt, take-suc-set, set-append-left, drop-drop, length-take-le}
+use lib.ListN.{length, take, drop, set}
+use lib.Seq.{take-length, take-set-lt, take-suc-set, set-append-left, drop-drop, length-take-le}
 use Rattle.words.specs.Words.{over, written}
 use Rattle.words.proofs.Over.{over-is}
 use Rattle.words.proofs.Moves.{written-is, part-written}

@@ -1,10 +1,10 @@
 -- What a line of a trace means (docs/TRACE.md, "Lines" and "Calls").
 use mathlib.Core.Bool.{Bool, true, false, cond, _&&_, _||_}
-use mathlib.Core.List.{List, [], _∷_, _++_}
+use mathlib.Core.List.{List, [], _∷_}
 use mathlib.Core.Option.{Option, none, some}
 use Prim.Native.Nat.{ℕ}
-use lib.Dec.{eqb, leb, ltb}
-use lib.ListN.{length, getD, drop}
+use lib.Dec.{eqb, ltb}
+use lib.ListN.{length, getD}
 use Rattle.rtp.specs.declared.opt.Opt.{Opt}
 use Rattle.rtp.specs.declared.opt.Opt.the-variants.{None, Some}
 use Rattle.trace.specs.declared.Alone.{Alone}

@@ -1,5 +1,5 @@
 -- `read` meets its contract: the word ends at the first blank, and what stands behind it are the fields.
-use Prim.Native.Nat.{_+_, _-_}
+use Prim.Native.Nat.{_-_}
 use Rattle.bytes.specs.Bytes.{indexOf}
 use Rattle.trace.proofs.Fields.{split-word, split-fields, to-end}
 use Rattle.trace.specs.Line.{lineOf}

@@ -5,8 +5,7 @@ use borrow.Author.Needs.{needs}
 use lib.ListN.{length, drop}
 use lib.Seq.{take-length}
 use mathlib.Core.List.{List}
-use mathlib.Core.Path.{_≡_, refl}
-use native.Mathlib.Omega.{arith}
+use mathlib.Core.Path.{_≡_}
 use Rattle.trace.proofs.field.end.Statement.{statement}
 use Rattle.trace.proofs.field.end.Tie as tie
 
