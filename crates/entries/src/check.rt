@@ -47,7 +47,10 @@ fn entry_within(b: Bounds, missing: bool, e: Entry) -> bool
     let low = packet_gaps::check::above(passed, e.number);
     let high = at_most(highest, e.number);
     let came = by_clock(b.clock, arrival);
-    high & (low & (!missing & ((e.timestamp.0 <= durations::LARGEST) & (came & (e.size <= PAYLOAD_BYTES)))))
+    high
+        & (low
+            & (!missing
+                & ((e.timestamp.0 <= durations::LARGEST) & (came & (e.size <= PAYLOAD_BYTES)))))
 }
 
 // Whether the numbers of the n entries ascend, and each entry is within the bounds and not the number of one of the m gaps. The payloads'

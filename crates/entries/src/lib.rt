@@ -19,8 +19,10 @@ use rtp::opt::Opt;
 
 pub mod check;
 
-// Words of a place, and bytes of a payload's place.
+// Words of an entry's place.
 pub const ENTRY_WORDS: usize = 4;
+
+// Bytes of its payload's place.
 pub const PAYLOAD_BYTES: usize = rtp_packet::LARGEST_PAYLOAD;
 
 // An entry without its payload.
@@ -97,12 +99,24 @@ pub fn insert(words: &mut [u64], bytes: &mut [u8], n: usize, e: Entry, payload: 
     let last = size_word(e.size, e.marker);
     let record = [e.number.0, e.timestamp.0, arrival, last];
     words::insert(words, ENTRY_WORDS * n, ENTRY_WORDS * k, &record);
-    words::octets::insert_place(bytes, PAYLOAD_BYTES * n, PAYLOAD_BYTES * k, PAYLOAD_BYTES, payload);
+    words::octets::insert_place(
+        bytes,
+        PAYLOAD_BYTES * n,
+        PAYLOAD_BYTES * k,
+        PAYLOAD_BYTES,
+        payload,
+    );
 }
 
 // Puts an entry in while the first one goes out, so that no place more is needed. Where it would itself be the first, nothing moves. The
 // answer is the number of the one that is out.
-pub fn push_out(words: &mut [u64], bytes: &mut [u8], n: usize, e: Entry, payload: &[u8]) -> ExtendedSequenceNumber
+pub fn push_out(
+    words: &mut [u64],
+    bytes: &mut [u8],
+    n: usize,
+    e: Entry,
+    payload: &[u8],
+) -> ExtendedSequenceNumber
     requires { ⌜ EntriesIn (now words) (now bytes) n ⌝ }
     requires { ⌜ ascends (entryNumbers (entriesOf (now words) (now bytes) n)) ≡ true ⌝ }
     requires { ⌜ Incoming e (now payload) ⌝ }

@@ -19,7 +19,7 @@ use rtp::opt::Opt;
 // 002's MAX_LOST_NACKED.
 pub const MAX_LOST_NACKED: usize = 1024;
 
-// Words of a place.
+// Words of a remembered number's place.
 pub const REMEMBERED_WORDS: usize = 2;
 
 // The place of the first with the number x, or n.
@@ -46,7 +46,12 @@ pub fn forget(s: &mut [u64], n: usize, x: ExtendedSequenceNumber) -> Opt
     let k = position(s, n, x);
     if k < n {
         let at = s[REMEMBERED_WORDS * k + 1];
-        words::remove(s, REMEMBERED_WORDS * n, REMEMBERED_WORDS * k, REMEMBERED_WORDS);
+        words::remove(
+            s,
+            REMEMBERED_WORDS * n,
+            REMEMBERED_WORDS * k,
+            REMEMBERED_WORDS,
+        );
         return Opt::Some(at);
     }
     Opt::None

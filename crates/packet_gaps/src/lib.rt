@@ -19,7 +19,7 @@ use rtp::opt::Opt;
 pub mod check;
 pub mod nacks;
 
-// Words of a place.
+// Words of a gap's place.
 pub const GAP_WORDS: usize = 4;
 
 pub struct Gap {
@@ -100,7 +100,13 @@ pub fn clear(s: &mut [u64])
 }
 
 // Opens a gap for each number between h and x, detected at `at`.
-pub fn open_between(s: &mut [u64], n: usize, h: ExtendedSequenceNumber, x: ExtendedSequenceNumber, at: u64)
+pub fn open_between(
+    s: &mut [u64],
+    n: usize,
+    h: ExtendedSequenceNumber,
+    x: ExtendedSequenceNumber,
+    at: u64,
+)
     requires { ⌜ GapsIn (now s) n ⌝ }
     requires { ⌜ h .0 < x .0 ⌝ }
     requires { ⌜ GAP-WORDS * (n + (x .0 - (h .0 + 1))) ≤ length (now s) ⌝ }
