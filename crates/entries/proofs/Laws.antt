@@ -173,7 +173,7 @@ unfolding arrivalWord
 arrival-is a i e = rw (e, add-one)
 
 module _ (e : Row.Entry) (p : List ℕ) (c : Incoming e p) where
-  pub row-words : (a w : ℕ) → a ≡ arrivalWord (e .arrival) → w ≡ 2 * e .size + bit (e .marker) → _≡_ {A = List ℕ} (e .number ∷ e .timestamp ∷ a ∷ w ∷ []) (entryWords (entry e p))
+  pub row-words : (a w : ℕ) → a ≡ arrivalWord (e .arrival) → w ≡ 2 * e .size + bit (e .marker) → _≡_ {A = List ℕ} (e .number .0 ∷ e .timestamp .0 ∷ a ∷ w ∷ []) (entryWords (entry e p))
   unfolding entryWords
   row-words a w ea ew = rw (ea, ew, c .size)
 

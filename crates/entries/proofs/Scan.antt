@@ -39,7 +39,7 @@ entriesLeft b gaps words bytes n i = left numberOf (entryWithin b gaps) noEntry 
 
 module _ (words bytes : List ℕ) (n i : ℕ) (h : i < n) (r : Row.Entry)
     (e : (p : List ℕ) → entryOf (take ENTRY-WORDS (drop (ENTRY-WORDS * i) words)) p ≡ entry r (padded (r .size) (take (r .size) p)))
-    (b : Bounds) (gaps : List Gap) (missing : Bool) (em : missing ≡ some? (is (r .number)) gaps) where
+    (b : Bounds) (gaps : List Gap) (missing : Bool) (em : missing ≡ some? (is (r .number .0)) gaps) where
   es : List Entry
   es = entriesOf words bytes n
 
@@ -60,7 +60,7 @@ module _ (words bytes : List ℕ) (n i : ℕ) (h : i < n) (r : Row.Entry)
   scan-last f l = left-last numberOf (entryWithin b gaps) noEntry es i inside (here ∙ f) (omega (arith, length-entriesOf words bytes n))
 
   -- the numbers at place i and at the next
-  number : r .number ≡ getD (entryNumbers es) i 0
+  number : r .number .0 ≡ getD (entryNumbers es) i 0
   unfolding es entryOf
   number = sym (List·getD-map numberOf es i noEntry ∙ ap numberOf (read-is words bytes n i h r e))
 
@@ -69,13 +69,13 @@ module _ (words bytes : List ℕ) (n i : ℕ) (h : i < n) (r : Row.Entry)
   next k = sym (ap (λ (l : List ℕ). getD l (i + 1) 0) (entry-numbers words bytes n) ∙ first-at ENTRY-WORDS n words (i + 1) (omega arith) k)
 
   module _ (k : i + 1 < n) where
-    pub scan-unordered : getD words (ENTRY-WORDS * (i + 1)) 0 ≤ r .number → entriesLeft b gaps words bytes n i ≡ false
+    pub scan-unordered : getD words (ENTRY-WORDS * (i + 1)) 0 ≤ r .number .0 → entriesLeft b gaps words bytes n i ≡ false
     unfolding es
-    scan-unordered l = left-unordered numberOf (entryWithin b gaps) noEntry es i inside (omega (arith, length-entriesOf words bytes n)) (r .number) (getD words (ENTRY-WORDS * (i + 1)) 0) number (next k) l
+    scan-unordered l = left-unordered numberOf (entryWithin b gaps) noEntry es i inside (omega (arith, length-entriesOf words bytes n)) (r .number .0) (getD words (ENTRY-WORDS * (i + 1)) 0) number (next k) l
 
-    pub scan-more : rowWithin b missing r ≡ true → r .number < getD words (ENTRY-WORDS * (i + 1)) 0 → entriesLeft b gaps words bytes n i ≡ entriesLeft b gaps words bytes n (i + 1)
+    pub scan-more : rowWithin b missing r ≡ true → r .number .0 < getD words (ENTRY-WORDS * (i + 1)) 0 → entriesLeft b gaps words bytes n i ≡ entriesLeft b gaps words bytes n (i + 1)
     unfolding es
-    scan-more f l = left-more numberOf (entryWithin b gaps) noEntry es i inside (omega (arith, length-entriesOf words bytes n)) (r .number) (getD words (ENTRY-WORDS * (i + 1)) 0) number (next k) (here ∙ f) l
+    scan-more f l = left-more numberOf (entryWithin b gaps) noEntry es i inside (omega (arith, length-entriesOf words bytes n)) (r .number .0) (getD words (ENTRY-WORDS * (i + 1)) 0) number (next k) (here ∙ f) l
 
 pub scan-end : (words bytes : List ℕ) (n i : ℕ) → n ≤ i → (b : Bounds) (gaps : List Gap) → entriesLeft b gaps words bytes n i ≡ true
 scan-end words bytes n i h b gaps = left-end numberOf (entryWithin b gaps) noEntry (entriesOf words bytes n) i (omega (arith, length-entriesOf words bytes n))

@@ -25,7 +25,7 @@ pub record EntriesIn (words bytes : List ℕ) (n : ℕ) : Type 0 where
 
 -- the record that an entry of the code stands for, with its payload
 abbrev pub entry : Entry → List ℕ → Records.Entry
-entry e p = record { arrival = e .arrival; timestamp = e .timestamp; number = e .number; marker = e .marker; payload = p }
+entry e p = record { arrival = e .arrival; timestamp = e .timestamp .0; number = e .number .0; marker = e .marker; payload = p }
 
 -- an entry that is to be written with the payload p
 pub record Incoming (e : Entry) (p : List ℕ) : Type 0 where

@@ -27,9 +27,9 @@ entryWithin b gaps e =
 -- of an entry without its payload, for which it is known whether its number is missing
 unfoldable pub rowWithin : Bounds → Bool → Entry → Bool
 rowWithin b missing e =
-    atMost (b .highest) (e .number)
-    && (not (atOrBelow (e .number) (b .passed))
+    atMost (b .highest) (e .number .0)
+    && (not (atOrBelow (e .number .0) (b .passed))
     && (not missing
-    && (leb (e .timestamp) largest
+    && (leb (e .timestamp .0) largest
     && (byClock (b .clock) (e .arrival)
     && leb (e .size) LARGEST-PAYLOAD))))

@@ -12,16 +12,19 @@ ghost use Rattle.model.specs.Valid.{atMost, byClock};
 ghost use Rattle.model.specs.Storage.{ENTRY-WORDS, PAYLOAD-BYTES, GAP-WORDS, entryWords, payloadBytes, entriesOf, gapsOf};
 ghost use Rattle.entries.specs.Entries.{fits};
 ghost use Rattle.entries.specs.Sound.{rowWithin, entryWithin};
+use super::ENTRY_WORDS;
 use super::Entry;
+use super::PAYLOAD_BYTES;
 use packet_gaps::check::Bounds;
+use rtp::ExtendedSequenceNumber;
 use rtp::opt::Opt;
 
-fn at_most(highest: Opt, x: u64) -> bool
-    ensures { λ r. ⌜ r ≡ atMost highest x ⌝ }
+fn at_most(highest: Opt, x: ExtendedSequenceNumber) -> bool
+    ensures { λ r. ⌜ r ≡ atMost highest (x .0) ⌝ }
 {
     match highest {
         Opt::None => false,
-        Opt::Some(h) => x <= h,
+        Opt::Some(h) => x.0 <= h,
     }
 }
 
@@ -44,7 +47,10 @@ fn entry_within(b: Bounds, missing: bool, e: Entry) -> bool
     let low = packet_gaps::check::above(passed, e.number);
     let high = at_most(highest, e.number);
     let came = by_clock(b.clock, arrival);
-    high & (low & (!missing & ((e.timestamp <= durations::LARGEST) & (came & (e.size <= 320)))))
+    high
+        & (low
+            & (!missing
+                & ((e.timestamp.0 <= durations::LARGEST) & (came & (e.size <= PAYLOAD_BYTES)))))
 }
 
 // Whether the numbers of the n entries ascend, and each entry is within the bounds and not the number of one of the m gaps. The payloads'
@@ -63,7 +69,7 @@ pub fn are_sound(words: &[u64], n: usize, b: Bounds, gaps: &[u64], m: usize) -> 
         }
         let next = i + 1;
         if next < n {
-            if words[4 * next] <= e.number {
+            if words[ENTRY_WORDS * next] <= e.number.0 {
                 return false;
             }
             i = next;
@@ -83,10 +89,10 @@ fn tidy_places(words: &[u64], bytes: &mut [u8], n: usize)
     let mut i = 0;
     while i < n {
         let e = super::read(words, i);
-        words::octets::tidy_place(bytes, 320 * i, 320, e.size);
+        words::octets::tidy_place(bytes, PAYLOAD_BYTES * i, PAYLOAD_BYTES, e.size);
         i += 1;
     }
-    words::octets::tidy(bytes, 320 * n);
+    words::octets::tidy(bytes, PAYLOAD_BYTES * n);
 }
 
 // Zeros wherever nothing of the n entries stands.
@@ -97,5 +103,5 @@ pub fn tidy(words: &mut [u64], bytes: &mut [u8], n: usize)
     ensures { λ _. ⌜ now (bytes .exit) ≡ laid payloadBytes (length (now (bytes .entry))) (entriesOf (now (words .entry)) (now (bytes .entry)) n) ⌝ }
 {
     tidy_places(words, bytes, n);
-    words::tidy(words, 4 * n);
+    words::tidy(words, ENTRY_WORDS * n);
 }

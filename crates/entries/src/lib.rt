@@ -13,16 +13,24 @@ ghost use Rattle.model.specs.Push.{insertSorted};
 ghost use Rattle.model.specs.Calls.{payloadOut};
 ghost use Rattle.model.specs.Storage.{ENTRY-WORDS, PAYLOAD-BYTES, arrivalWord, arrivalOf, bit, entryWords, payloadBytes, entryOf, entriesOf};
 ghost use Rattle.entries.specs.Entries.{EntriesIn, Incoming, entry, firstNumber};
+use rtp::ExtendedRtpTimestamp;
+use rtp::ExtendedSequenceNumber;
 use rtp::opt::Opt;
 
 pub mod check;
+
+// Words of an entry's place.
+pub const ENTRY_WORDS: usize = 4;
+
+// Bytes of its payload's place.
+pub const PAYLOAD_BYTES: usize = rtp_packet::LARGEST_PAYLOAD;
 
 // An entry without its payload.
 pub struct Entry {
     // None for a repair.
     pub arrival: Opt,
-    pub timestamp: u64,
-    pub number: u64,
+    pub timestamp: ExtendedRtpTimestamp,
+    pub number: ExtendedSequenceNumber,
     pub marker: bool,
     // How many bytes the payload has.
     pub size: usize,
@@ -62,15 +70,15 @@ pub fn read(words: &[u64], i: usize) -> Entry
     requires { ⌜ ENTRY-WORDS * i + ENTRY-WORDS ≤ length (now words) ⌝ }
     ensures { λ r. ⌜ ((p : List ℕ) → entryOf (take ENTRY-WORDS (drop (ENTRY-WORDS * i) (now (words .entry)))) p ≡ entry r (padded (r .size) (take (r .size) p))) ⌝ }
 {
-    let at = 4 * i;
+    let at = ENTRY_WORDS * i;
     let number = words[at];
     let timestamp = words[at + 1];
     let arrival = arrival_of(words[at + 2]);
     let last = words[at + 3];
     Entry {
         arrival,
-        timestamp,
-        number,
+        timestamp: ExtendedRtpTimestamp(timestamp),
+        number: ExtendedSequenceNumber(number),
         marker: last % 2 == 1,
         size: (last / 2) as usize,
     }
@@ -85,26 +93,38 @@ pub fn insert(words: &mut [u64], bytes: &mut [u8], n: usize, e: Entry, payload: 
     ensures { λ _. ⌜ now (words .exit) ≡ laid entryWords (length (now (words .entry))) (insertSorted (entry e (now (payload .entry))) (entriesOf (now (words .entry)) (now (bytes .entry)) n)) ⌝ }
     ensures { λ _. ⌜ now (bytes .exit) ≡ laid payloadBytes (length (now (bytes .entry))) (insertSorted (entry e (now (payload .entry))) (entriesOf (now (words .entry)) (now (bytes .entry)) n)) ⌝ }
 {
-    let k = words::search::rank_of(words, 4, n, e.number);
+    let k = words::search::rank_of(words, ENTRY_WORDS, n, e.number.0);
     let came = e.arrival;
     let arrival = arrival_word(came);
     let last = size_word(e.size, e.marker);
-    let record = [e.number, e.timestamp, arrival, last];
-    words::insert(words, 4 * n, 4 * k, &record);
-    words::octets::insert_place(bytes, 320 * n, 320 * k, 320, payload);
+    let record = [e.number.0, e.timestamp.0, arrival, last];
+    words::insert(words, ENTRY_WORDS * n, ENTRY_WORDS * k, &record);
+    words::octets::insert_place(
+        bytes,
+        PAYLOAD_BYTES * n,
+        PAYLOAD_BYTES * k,
+        PAYLOAD_BYTES,
+        payload,
+    );
 }
 
 // Puts an entry in while the first one goes out, so that no place more is needed. Where it would itself be the first, nothing moves. The
 // answer is the number of the one that is out.
-pub fn push_out(words: &mut [u64], bytes: &mut [u8], n: usize, e: Entry, payload: &[u8]) -> u64
+pub fn push_out(
+    words: &mut [u64],
+    bytes: &mut [u8],
+    n: usize,
+    e: Entry,
+    payload: &[u8],
+) -> ExtendedSequenceNumber
     requires { ⌜ EntriesIn (now words) (now bytes) n ⌝ }
     requires { ⌜ ascends (entryNumbers (entriesOf (now words) (now bytes) n)) ≡ true ⌝ }
     requires { ⌜ Incoming e (now payload) ⌝ }
-    ensures { λ r. ⌜ r ≡ firstNumber (insertSorted (entry e (now (payload .entry))) (entriesOf (now (words .entry)) (now (bytes .entry)) n)) ⌝ }
+    ensures { λ r. ⌜ r .0 ≡ firstNumber (insertSorted (entry e (now (payload .entry))) (entriesOf (now (words .entry)) (now (bytes .entry)) n)) ⌝ }
     ensures { λ _. ⌜ now (words .exit) ≡ laid entryWords (length (now (words .entry))) (drop 1 (insertSorted (entry e (now (payload .entry))) (entriesOf (now (words .entry)) (now (bytes .entry)) n))) ⌝ }
     ensures { λ _. ⌜ now (bytes .exit) ≡ laid payloadBytes (length (now (bytes .entry))) (drop 1 (insertSorted (entry e (now (payload .entry))) (entriesOf (now (words .entry)) (now (bytes .entry)) n))) ⌝ }
 {
-    let k = words::search::rank_of(words, 4, n, e.number);
+    let k = words::search::rank_of(words, ENTRY_WORDS, n, e.number.0);
     if k == 0 {
         return e.number;
     }
@@ -112,10 +132,10 @@ pub fn push_out(words: &mut [u64], bytes: &mut [u8], n: usize, e: Entry, payload
     let came = e.arrival;
     let arrival = arrival_word(came);
     let last = size_word(e.size, e.marker);
-    let record = [e.number, e.timestamp, arrival, last];
-    words::replace_first(words, 4 * k, &record);
-    words::octets::replace_first_place(bytes, 320 * k, 320, payload);
-    first
+    let record = [e.number.0, e.timestamp.0, arrival, last];
+    words::replace_first(words, ENTRY_WORDS * k, &record);
+    words::octets::replace_first_place(bytes, PAYLOAD_BYTES * k, PAYLOAD_BYTES, payload);
+    ExtendedSequenceNumber(first)
 }
 
 // Copies the first `size` bytes of a place out, through a buffer of its own (01, "Hand-out"); `out` keeps the bytes after them.
@@ -123,7 +143,7 @@ fn copy_out(bytes: &[u8], size: usize, out: &mut [u8])
     requires { ⌜ (size ≤ PAYLOAD-BYTES) × (size ≤ length (now bytes)) × (size ≤ length (now out)) ⌝ }
     ensures { λ _. ⌜ now (out .exit) ≡ over (take size (now (bytes .entry))) (now (out .entry)) ⌝ }
 {
-    let mut buffer = [0u8; 320];
+    let mut buffer = [0u8; PAYLOAD_BYTES];
     words::octets::copy(&bytes[..size], &mut buffer);
     words::octets::copy(&buffer[..size], out);
 }
@@ -140,7 +160,7 @@ pub fn pop_front(words: &mut [u64], bytes: &mut [u8], n: usize, out: &mut [u8]) 
 {
     let e = read(words, 0);
     copy_out(bytes, e.size, out);
-    words::remove(words, 4 * n, 0, 4);
-    words::octets::remove(bytes, 320 * n, 0, 320);
+    words::remove(words, ENTRY_WORDS * n, 0, ENTRY_WORDS);
+    words::octets::remove(bytes, PAYLOAD_BYTES * n, 0, PAYLOAD_BYTES);
     e
 }

@@ -13,16 +13,23 @@ ghost use Rattle.model.specs.Storage.{REMEMBERED-WORDS, GAP-WORDS, rememberedWo
 ghost use Rattle.packet_gaps.specs.Gaps.{gap};
 ghost use Rattle.lost_nacked.specs.Remembered.{RememberedIn, apart, instantOf, once, rememberedBy};
 use packet_gaps::Gap;
+use rtp::ExtendedSequenceNumber;
 use rtp::opt::Opt;
 
+// 002's MAX_LOST_NACKED.
+pub const MAX_LOST_NACKED: usize = 1024;
+
+// Words of a remembered number's place.
+pub const REMEMBERED_WORDS: usize = 2;
+
 // The place of the first with the number x, or n.
-fn position(s: &[u64], n: usize, x: u64) -> usize
+fn position(s: &[u64], n: usize, x: ExtendedSequenceNumber) -> usize
     requires { ⌜ REMEMBERED-WORDS * n ≤ length (now s) ⌝ }
-    ensures { λ r. ⌜ r ≡ length (leading (apart x) (rememberedOf (now (s .entry)) n)) ⌝ }
+    ensures { λ r. ⌜ r ≡ length (leading (apart (x .0)) (rememberedOf (now (s .entry)) n)) ⌝ }
 {
     let mut i = 0;
     while i < n {
-        if s[2 * i] == x {
+        if s[REMEMBERED_WORDS * i] == x.0 {
             return i;
         }
         i += 1;
@@ -31,15 +38,20 @@ fn position(s: &[u64], n: usize, x: u64) -> usize
 }
 
 // Takes the first with the number x out, if there is one; the answer is its instant.
-pub fn forget(s: &mut [u64], n: usize, x: u64) -> Opt
+pub fn forget(s: &mut [u64], n: usize, x: ExtendedSequenceNumber) -> Opt
     requires { ⌜ RememberedIn (now s) n ⌝ }
-    ensures { λ r. ⌜ r ≡ instantOf (keep (isOf x) (rememberedOf (now (s .entry)) n)) ⌝ }
-    ensures { λ _. ⌜ now (s .exit) ≡ laid rememberedWords (length (now (s .entry))) (forgetFirst x (rememberedOf (now (s .entry)) n)) ⌝ }
+    ensures { λ r. ⌜ r ≡ instantOf (keep (isOf (x .0)) (rememberedOf (now (s .entry)) n)) ⌝ }
+    ensures { λ _. ⌜ now (s .exit) ≡ laid rememberedWords (length (now (s .entry))) (forgetFirst (x .0) (rememberedOf (now (s .entry)) n)) ⌝ }
 {
     let k = position(s, n, x);
     if k < n {
-        let at = s[2 * k + 1];
-        words::remove(s, 2 * n, 2 * k, 2);
+        let at = s[REMEMBERED_WORDS * k + 1];
+        words::remove(
+            s,
+            REMEMBERED_WORDS * n,
+            REMEMBERED_WORDS * k,
+            REMEMBERED_WORDS,
+        );
         return Opt::Some(at);
     }
     Opt::None
@@ -65,8 +77,8 @@ fn push_back(s: &mut [u64], n: usize, g: Gap)
     requires { ⌜ REMEMBERED-WORDS * n + REMEMBERED-WORDS ≤ length (now s) ⌝ }
     ensures { λ _. ⌜ now (s .exit) ≡ written (REMEMBERED-WORDS * n) (rememberedWords (remember (gap g))) (now (s .entry)) ⌝ }
 {
-    let words = [g.number, g.nacked_at];
-    words::write(s, 2 * n, &words);
+    let words = [g.number.0, g.nacked_at];
+    words::write(s, REMEMBERED_WORDS * n, &words);
 }
 
 // Puts those of the first `lost` gaps that were NACKed just once behind the others, but for the first `skip` of them.
@@ -96,7 +108,11 @@ fn append(s: &mut [u64], n: usize, gaps: &[u64], lost: usize, skip: usize)
 fn beyond(count: usize) -> usize
     ensures { λ r. ⌜ r ≡ count - MAX-LOST-NACKED ⌝ }
 {
-    if 1024 < count { count - 1024 } else { 0 }
+    if MAX_LOST_NACKED < count {
+        count - MAX_LOST_NACKED
+    } else {
+        0
+    }
 }
 
 fn least(a: usize, b: usize) -> usize
@@ -117,7 +133,7 @@ pub fn note_lost(s: &mut [u64], n: usize, gaps: &[u64], lost: usize) -> usize
     let more = count_once(gaps, lost);
     let excess = beyond(n + more);
     let out = least(excess, n);
-    words::remove(s, 2 * n, 0, 2 * out);
+    words::remove(s, REMEMBERED_WORDS * n, 0, REMEMBERED_WORDS * out);
     append(s, n - out, gaps, lost, excess - out);
     n + more - excess
 }
@@ -129,10 +145,10 @@ pub fn are_sound(s: &[u64], n: usize, clock: u64) -> bool
 {
     let mut i = 0;
     while i < n {
-        if durations::LARGEST < s[2 * i] {
+        if durations::LARGEST < s[REMEMBERED_WORDS * i] {
             return false;
         }
-        if clock < s[2 * i + 1] {
+        if clock < s[REMEMBERED_WORDS * i + 1] {
             return false;
         }
         i += 1;
@@ -145,5 +161,5 @@ pub fn tidy(s: &mut [u64], n: usize)
     requires { ⌜ REMEMBERED-WORDS * n ≤ length (now s) ⌝ }
     ensures { λ _. ⌜ now (s .exit) ≡ laid rememberedWords (length (now (s .entry))) (rememberedOf (now (s .entry)) n) ⌝ }
 {
-    words::tidy(s, 2 * n);
+    words::tidy(s, REMEMBERED_WORDS * n);
 }

@@ -1,4 +1,4 @@
--- The loop of `open_between`: each turn writes one gap behind the others, so that the gaps between h and the next number are open.
+-- The loop of `open_between`: each turn writes one gap behind the others, so that the gaps from the first number to the next are open.
 use mathlib.Core.Path.{_≡_, refl, sym, ap, _∙_}
 use mathlib.Core.List.{List, [], _∷_, _++_, map, append-assoc, append-nil}
 use Prim.Native.Nat.{ℕ, zero, suc, _+_, _*_, _-_, _≤_, _<_}
@@ -23,31 +23,31 @@ following-next a (suc k) =
     let e : suc a + k ≡ a + suc k = omega arith in
     ap (λ (l : List ℕ). a ∷ l) (following-next (suc a) k ∙ ap (λ (v : ℕ). following (suc a) k ++ (v ∷ [])) e)
 
--- the gaps before the number that follows h by k + 1 are open
+-- k gaps from the first number on are open
 unfoldable pub opened : List ℕ → ℕ → ℕ → ℕ → ℕ → List Gap
-opened s₀ n h at k = gapsOf s₀ n ++ map (fresh at) (following (suc h) k)
+opened s₀ n first at k = gapsOf s₀ n ++ map (fresh at) (following first k)
 
-length-opened : (s₀ : List ℕ) (n h at k : ℕ) → length (opened s₀ n h at k) ≡ n + k
+length-opened : (s₀ : List ℕ) (n first at k : ℕ) → length (opened s₀ n first at k) ≡ n + k
 unfolding opened
-length-opened s₀ n h at k =
-    length-append (gapsOf s₀ n) (map (fresh at) (following (suc h) k))
-    ∙ rw (length-gapsOf s₀ n, length-map (following (suc h) k) (fresh at), length-following (suc h) k)
+length-opened s₀ n first at k =
+    length-append (gapsOf s₀ n) (map (fresh at) (following first k))
+    ∙ rw (length-gapsOf s₀ n, length-map (following first k) (fresh at), length-following first k)
 
-opened-next : (s₀ : List ℕ) (n h at k : ℕ) → opened s₀ n h at k ++ (fresh at (suc h + k) ∷ []) ≡ opened s₀ n h at (suc k)
+opened-next : (s₀ : List ℕ) (n first at k : ℕ) → opened s₀ n first at k ++ (fresh at (first + k) ∷ []) ≡ opened s₀ n first at (suc k)
 unfolding opened
-opened-next s₀ n h at k = rw (append-assoc, following-next (suc h) k, map-append)
+opened-next s₀ n first at k = rw (append-assoc, following-next first k, map-append)
 
-pub record Opening (s₀ s : List ℕ) (n h x at number i : ℕ) : Type 0 where
+pub record Opening (s₀ s : List ℕ) (n first x at number i : ℕ) : Type 0 where
   pub from : n ≤ i
   pub upto : number ≤ x
-  pub step : n + number ≡ i + (h + 1)
-  pub room : GAP-WORDS * (n + (x - (h + 1))) ≤ length s₀
+  pub step : n + number ≡ i + first
+  pub room : GAP-WORDS * (n + (x - first)) ≤ length s₀
   pub same : length s ≡ length s₀
-  pub held : s ≡ laid gapWords (length s₀) (opened s₀ n h at (i - n))
+  pub held : s ≡ laid gapWords (length s₀) (opened s₀ n first at (i - n))
 
-pub opening-none : (s₀ : List ℕ) (n h x at : ℕ) → GapsIn s₀ n → h < x → GAP-WORDS * (n + (x - (h + 1))) ≤ length s₀ → Opening s₀ s₀ n h x at (h + 1) n
+pub opening-none : (s₀ : List ℕ) (n first x at : ℕ) → GapsIn s₀ n → first ≤ x → GAP-WORDS * (n + (x - first)) ≤ length s₀ → Opening s₀ s₀ n first x at first n
 unfolding opened following
-opening-none s₀ n h x at k l r =
+opening-none s₀ n first x at k l r =
     let z : n - n ≡ 0 = omega arith in
     record {
       from = omega arith;
@@ -58,23 +58,23 @@ opening-none s₀ n h x at k l r =
       held = rw (z, append-nil) (k .held);
     }
 
-pub opening-more : (s₀ s t : List ℕ) (n h x at number i : ℕ) → Opening s₀ s n h x at number i → number < x
-    → t ≡ written (GAP-WORDS * i) (gapWords (fresh at number)) s → Opening s₀ t n h x at (number + 1) (i + 1)
-opening-more s₀ s t n h x at number i o l e =
+pub opening-more : (s₀ s t : List ℕ) (n first x at number i : ℕ) → Opening s₀ s n first x at number i → number < x
+    → t ≡ written (GAP-WORDS * i) (gapWords (fresh at number)) s → Opening s₀ t n first x at (number + 1) (i + 1)
+opening-more s₀ s t n first x at number i o l e =
     let k = i - n in
     let from : n ≤ i = o .from in
-    let step : n + number ≡ i + (h + 1) = o .step in
-    let room : GAP-WORDS * (n + (x - (h + 1))) ≤ length s₀ = o .room in
-    let v : suc h + k ≡ number = omega arith in
+    let step : n + number ≡ i + first = o .step in
+    let room : GAP-WORDS * (n + (x - first)) ≤ length s₀ = o .room in
+    let v : first + k ≡ number = omega arith in
     let z : suc k ≡ i + 1 - n = omega arith in
-    let xs = opened s₀ n h at k in
-    let lx : length xs ≡ i = length-opened s₀ n h at k ∙ omega arith in
-    let ly : length (opened s₀ n h at (i + 1 - n)) ≡ i + 1 = length-opened s₀ n h at (i + 1 - n) ∙ omega arith in
-    let held : t ≡ laid gapWords (length s₀) (opened s₀ n h at (i + 1 - n)) =
+    let xs = opened s₀ n first at k in
+    let lx : length xs ≡ i = length-opened s₀ n first at k ∙ omega arith in
+    let ly : length (opened s₀ n first at (i + 1 - n)) ≡ i + 1 = length-opened s₀ n first at (i + 1 - n) ∙ omega arith in
+    let held : t ≡ laid gapWords (length s₀) (opened s₀ n first at (i + 1 - n)) =
     e
     ∙ holds-pushed (gaps-held (o .held) lx (omega arith)) (fresh at number)
     ∙ ap (λ (m : ℕ). laid gapWords (length s₀) (xs ++ (fresh at m ∷ []))) (sym v)
-    ∙ ap (laid gapWords (length s₀)) (opened-next s₀ n h at k ∙ ap (opened s₀ n h at) z) in
+    ∙ ap (laid gapWords (length s₀)) (opened-next s₀ n first at k ∙ ap (opened s₀ n first at) z) in
     record {
       from = omega arith;
       upto = omega arith;
@@ -84,11 +84,12 @@ opening-more s₀ s t n h x at number i o l e =
       held = held;
     }
 
-pub opening-all : (s₀ s : List ℕ) (n h x at number i : ℕ) → Opening s₀ s n h x at number i → x ≤ number
+pub opening-all : (s₀ s : List ℕ) (n h x at number i : ℕ) → Opening s₀ s n (h + 1) x at number i → x ≤ number
     → s ≡ laid gapWords (length s₀) (gapsOf s₀ n ++ map (fresh at) (between h x))
 unfolding opened between
 opening-all s₀ s n h x at number i o l =
     let step : n + number ≡ i + (h + 1) = o .step in
     let upto : number ≤ x = o .upto in
+    let f : h + 1 ≡ suc h = omega arith in
     let z : i - n ≡ x - suc h = omega arith in
-    o .held ∙ ap (λ (k : ℕ). laid gapWords (length s₀) (gapsOf s₀ n ++ map (fresh at) (following (suc h) k))) z
+    rw (sym z) (rw f at (o .held))

@@ -25,7 +25,7 @@ pub record GapsIn (words : List ℕ) (n : ℕ) : Type 0 where
 
 -- the record that a gap of the code stands for
 abbrev pub gap : Gap → Records.Gap
-gap g = record { number = g .number; detected = g .detected; nacks = g .nacks; nackedAt = g .«nacked_at» }
+gap g = record { number = g .number .0; detected = g .detected; nacks = g .nacks; nackedAt = g .«nacked_at» }
 
 -- the instant of a gap's NACK, if there was just one
 unfoldable pub nackedOnce : Records.Gap → Opt

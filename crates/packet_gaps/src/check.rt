@@ -12,11 +12,13 @@ ghost use Rattle.model.specs.Valid.{under};
 ghost use Rattle.model.specs.Storage.{GAP-WORDS, gapWords, gapsOf};
 ghost use Rattle.packet_gaps.specs.Gaps.{gap};
 ghost use Rattle.packet_gaps.specs.Sound.{boundsOf, passedOf, gapWithin};
+use super::GAP_WORDS;
 use super::Gap;
 use config::RtpInboundQueueMode;
 use model::LastReceived;
 use model::LastReturned;
 use model::Queue;
+use rtp::ExtendedSequenceNumber;
 use rtp::opt::Opt;
 
 // Between which numbers the gaps and entries of a session lie, and its clock.
@@ -67,21 +69,21 @@ pub fn bounds_of(q: Queue) -> Bounds
 }
 
 // Whether x is above `low`, where there is one.
-pub fn above(low: Opt, x: u64) -> bool
-    ensures { λ r. ⌜ r ≡ not (atOrBelow x low) ⌝ }
+pub fn above(low: Opt, x: ExtendedSequenceNumber) -> bool
+    ensures { λ r. ⌜ r ≡ not (atOrBelow (x .0) low) ⌝ }
 {
     match low {
         Opt::None => true,
-        Opt::Some(m) => m < x,
+        Opt::Some(m) => m < x.0,
     }
 }
 
-fn below_highest(highest: Opt, x: u64) -> bool
-    ensures { λ r. ⌜ r ≡ under highest x ⌝ }
+fn below_highest(highest: Opt, x: ExtendedSequenceNumber) -> bool
+    ensures { λ r. ⌜ r ≡ under highest (x .0) ⌝ }
 {
     match highest {
         Opt::None => false,
-        Opt::Some(h) => x < h,
+        Opt::Some(h) => x.0 < h,
     }
 }
 
@@ -107,7 +109,7 @@ pub fn are_sound(s: &[u64], n: usize, b: Bounds) -> bool
         }
         let next = i + 1;
         if next < n {
-            if s[4 * next] <= g.number {
+            if s[GAP_WORDS * next] <= g.number.0 {
                 return false;
             }
             i = next;
@@ -123,5 +125,5 @@ pub fn tidy(s: &mut [u64], n: usize)
     requires { ⌜ GAP-WORDS * n ≤ length (now s) ⌝ }
     ensures { λ _. ⌜ now (s .exit) ≡ laid gapWords (length (now (s .entry))) (gapsOf (now (s .entry)) n) ⌝ }
 {
-    words::tidy(s, 4 * n);
+    words::tidy(s, GAP_WORDS * n);
 }

@@ -13,13 +13,17 @@ ghost use Rattle.model.specs.Records.{gapNumbers};
 ghost use Rattle.model.specs.Rules.{is, gapOf, without, gapsBelow, between, fresh};
 ghost use Rattle.model.specs.Storage.{GAP-WORDS, gapWords, gapOfWords, gapsOf};
 ghost use Rattle.packet_gaps.specs.Gaps.{GapsIn, gap, nackedOnce, onceOf};
+use rtp::ExtendedSequenceNumber;
 use rtp::opt::Opt;
 
 pub mod check;
 pub mod nacks;
 
+// Words of a gap's place.
+pub const GAP_WORDS: usize = 4;
+
 pub struct Gap {
-    pub number: u64,
+    pub number: ExtendedSequenceNumber,
     pub detected: u64,
     pub nacks: u64,
     // Of no account as long as there was no NACK.
@@ -31,13 +35,13 @@ pub fn read(s: &[u64], i: usize) -> Gap
     requires { ⌜ GAP-WORDS * i + GAP-WORDS ≤ length (now s) ⌝ }
     ensures { λ r. ⌜ gap r ≡ gapOfWords (take GAP-WORDS (drop (GAP-WORDS * i) (now (s .entry)))) ⌝ }
 {
-    let at = 4 * i;
+    let at = GAP_WORDS * i;
     let number = s[at];
     let detected = s[at + 1];
     let nacks = s[at + 2];
     let nacked_at = s[at + 3];
     Gap {
-        number,
+        number: ExtendedSequenceNumber(number),
         detected,
         nacks,
         nacked_at,
@@ -48,19 +52,19 @@ fn write(s: &mut [u64], i: usize, g: Gap)
     requires { ⌜ GAP-WORDS * i + GAP-WORDS ≤ length (now s) ⌝ }
     ensures { λ _. ⌜ now (s .exit) ≡ written (GAP-WORDS * i) (gapWords (gap g)) (now (s .entry)) ⌝ }
 {
-    let words = [g.number, g.detected, g.nacks, g.nacked_at];
-    words::write(s, 4 * i, &words);
+    let words = [g.number.0, g.detected, g.nacks, g.nacked_at];
+    words::write(s, GAP_WORDS * i, &words);
 }
 
 // Whether x is the number of a gap.
-pub fn contains(s: &[u64], n: usize, x: u64) -> bool
+pub fn contains(s: &[u64], n: usize, x: ExtendedSequenceNumber) -> bool
     requires { ⌜ GAP-WORDS * n ≤ length (now s) ⌝ }
     requires { ⌜ ascends (gapNumbers (gapsOf (now s) n)) ≡ true ⌝ }
-    ensures { λ r. ⌜ r ≡ some? (is x) (gapsOf (now (s .entry)) n) ⌝ }
+    ensures { λ r. ⌜ r ≡ some? (is (x .0)) (gapsOf (now (s .entry)) n) ⌝ }
 {
-    let k = words::search::rank_of(s, 4, n, x);
+    let k = words::search::rank_of(s, GAP_WORDS, n, x.0);
     if k < n {
-        return s[4 * k] == x;
+        return s[GAP_WORDS * k] == x.0;
     }
     false
 }
@@ -75,16 +79,16 @@ fn nacked_once(g: Gap) -> Opt
 }
 
 // Takes the gap of the number x out; its answer is the instant of the NACK, if there was just one.
-pub fn remove(s: &mut [u64], n: usize, x: u64) -> Opt
+pub fn remove(s: &mut [u64], n: usize, x: ExtendedSequenceNumber) -> Opt
     requires { ⌜ GapsIn (now s) n ⌝ }
     requires { ⌜ ascends (gapNumbers (gapsOf (now s) n)) ≡ true ⌝ }
-    requires { ⌜ some? (is x) (gapsOf (now s) n) ≡ true ⌝ }
-    ensures { λ r. ⌜ r ≡ onceOf (gapOf x (gapsOf (now (s .entry)) n)) ⌝ }
-    ensures { λ _. ⌜ now (s .exit) ≡ laid gapWords (length (now (s .entry))) (without x (gapsOf (now (s .entry)) n)) ⌝ }
+    requires { ⌜ some? (is (x .0)) (gapsOf (now s) n) ≡ true ⌝ }
+    ensures { λ r. ⌜ r ≡ onceOf (gapOf (x .0) (gapsOf (now (s .entry)) n)) ⌝ }
+    ensures { λ _. ⌜ now (s .exit) ≡ laid gapWords (length (now (s .entry))) (without (x .0) (gapsOf (now (s .entry)) n)) ⌝ }
 {
-    let k = words::search::rank_of(s, 4, n, x);
+    let k = words::search::rank_of(s, GAP_WORDS, n, x.0);
     let g = read(s, k);
-    words::remove(s, 4 * n, 4 * k, 4);
+    words::remove(s, GAP_WORDS * n, GAP_WORDS * k, GAP_WORDS);
     nacked_once(g)
 }
 
@@ -96,17 +100,23 @@ pub fn clear(s: &mut [u64])
 }
 
 // Opens a gap for each number between h and x, detected at `at`.
-pub fn open_between(s: &mut [u64], n: usize, h: u64, x: u64, at: u64)
+pub fn open_between(
+    s: &mut [u64],
+    n: usize,
+    h: ExtendedSequenceNumber,
+    x: ExtendedSequenceNumber,
+    at: u64,
+)
     requires { ⌜ GapsIn (now s) n ⌝ }
-    requires { ⌜ h < x ⌝ }
-    requires { ⌜ GAP-WORDS * (n + (x - (h + 1))) ≤ length (now s) ⌝ }
-    ensures { λ _. ⌜ now (s .exit) ≡ laid gapWords (length (now (s .entry))) (gapsOf (now (s .entry)) n ++ map (fresh at) (between h x)) ⌝ }
+    requires { ⌜ h .0 < x .0 ⌝ }
+    requires { ⌜ GAP-WORDS * (n + (x .0 - (h .0 + 1))) ≤ length (now s) ⌝ }
+    ensures { λ _. ⌜ now (s .exit) ≡ laid gapWords (length (now (s .entry))) (gapsOf (now (s .entry)) n ++ map (fresh at) (between (h .0) (x .0))) ⌝ }
 {
-    let mut number = h + 1;
+    let mut number = h.0 + 1;
     let mut i = n;
-    while number < x {
+    while number < x.0 {
         let g = Gap {
-            number,
+            number: ExtendedSequenceNumber(number),
             detected: at,
             nacks: 0,
             nacked_at: 0,
@@ -118,12 +128,12 @@ pub fn open_between(s: &mut [u64], n: usize, h: u64, x: u64, at: u64)
 }
 
 // How many gaps have a number below x. They stand at the front.
-pub fn count_below(s: &[u64], n: usize, x: u64) -> usize
+pub fn count_below(s: &[u64], n: usize, x: ExtendedSequenceNumber) -> usize
     requires { ⌜ GAP-WORDS * n ≤ length (now s) ⌝ }
     requires { ⌜ ascends (gapNumbers (gapsOf (now s) n)) ≡ true ⌝ }
-    ensures { λ r. ⌜ r ≡ length (gapsBelow x (gapsOf (now (s .entry)) n)) ⌝ }
+    ensures { λ r. ⌜ r ≡ length (gapsBelow (x .0) (gapsOf (now (s .entry)) n)) ⌝ }
 {
-    words::search::rank_of(s, 4, n, x)
+    words::search::rank_of(s, GAP_WORDS, n, x.0)
 }
 
 // Takes the first k gaps out.
@@ -132,5 +142,5 @@ pub fn drain(s: &mut [u64], n: usize, k: usize)
     requires { ⌜ k ≤ n ⌝ }
     ensures { λ _. ⌜ now (s .exit) ≡ laid gapWords (length (now (s .entry))) (drop k (gapsOf (now (s .entry)) n)) ⌝ }
 {
-    words::remove(s, 4 * n, 0, 4 * k);
+    words::remove(s, GAP_WORDS * n, 0, GAP_WORDS * k);
 }

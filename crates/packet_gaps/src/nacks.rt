@@ -13,7 +13,6 @@ ghost use Rattle.model.specs.Storage.{GAP-WORDS, gapWords, gapsOf};
 ghost use Rattle.packet_gaps.specs.Gaps.{GapsIn, gap, dueAfter, dueBy, nackedBy, truncated, full, timeoutBy, instantsFit, Small};
 use super::Gap;
 use config::NackTimings;
-use rtp::ExtendedSequenceNumber;
 use rtp::opt::Opt;
 
 fn due_at(g: Gap, t: NackTimings) -> u64
@@ -40,8 +39,9 @@ fn nack(g: Gap, now: u64) -> Gap
     requires { ⌜ full (gap g) ≡ false ⌝ }
     ensures { λ r. ⌜ gap r ≡ nacked now (gap g) ⌝ }
 {
+    let number = g.number;
     Gap {
-        number: g.number,
+        number,
         detected: g.detected,
         nacks: g.nacks + 1,
         nacked_at: now,
@@ -86,7 +86,7 @@ pub fn poll_nacks(s: &mut [u64], n: usize, now: u64, t: NackTimings, out: &mut [
     while i < n {
         let g = super::read(s, i);
         if is_due(g, t, now) {
-            out[count] = ExtendedSequenceNumber(g.number).truncated().0;
+            out[count] = g.number.truncated().0;
             count += 1;
             super::write(s, i, nack(g, now));
             i += 1;

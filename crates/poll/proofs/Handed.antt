@@ -41,9 +41,9 @@ pub payload-size : (size : ℕ) (bytes : List ℕ) (n : ℕ) → PAYLOAD-BYTES *
 payload-size size bytes n r p h = length-take-le size bytes (omega arith)
 
 module _ (s : Session) (e p g r : List ℕ) (a : ascends (gapNumbers (gapsOf g (s .gaps))) ≡ true) (x : Row.Entry) (payload : List ℕ) (t : take 1 (entriesOf e p (s .entries)) ≡ entry x payload ∷ [])
-    (k : ℕ) (ek : k ≡ length (lostBelow (s .queue .config .settings .mode) (x .number) (gapsOf g (s .gaps)))) where
+    (k : ℕ) (ek : k ≡ length (lostBelow (s .queue .config .settings .mode) (x .number .0) (gapsOf g (s .gaps)))) where
   pub handed-leaves : (count : ℕ) (q : Queue) (e′ p′ g′ r′ : List ℕ)
-      → q ≡ withReturned (lose k (s .queue)) (x .number)
+      → q ≡ withReturned (lose k (s .queue)) (x .number .0)
       → count ≡ length (rememberedAfter (s .queue .config .senders .«has_rtx») (gapsOf g k) (rememberedOf r (s .remembered)))
       → e′ ≡ laid entryWords (length e) (drop 1 (entriesOf e p (s .entries)))
       → p′ ≡ laid payloadBytes (length p) (drop 1 (entriesOf e p (s .entries)))
@@ -54,9 +54,9 @@ module _ (s : Session) (e p g r : List ℕ) (a : ascends (gapNumbers (gapsOf g (
   handed-leaves count q e′ p′ g′ r′ eq ec ee ep eg er =
       let mode = s .queue .config .settings .mode in
       let fewer : s .entries - 1 ≡ length (drop 1 (entriesOf e p (s .entries))) = omega (arith, length-drop 1 (entriesOf e p (s .entries)), length-entriesOf e p (s .entries)) in
-      let lost = lost-are mode g (s .gaps) (x .number) k a ek in
-      let left = left-are mode g (s .gaps) (x .number) k a ek in
-      let count-left = left-count mode g (s .gaps) (x .number) k a ek in
+      let lost = lost-are mode g (s .gaps) (x .number .0) k a ek in
+      let left = left-are mode g (s .gaps) (x .number .0) k a ek in
+      let count-left = left-count mode g (s .gaps) (x .number .0) k a ek in
       rw t
       (record {
         session-is = rw (fewer, count-left, eq, ec, lost, ek);

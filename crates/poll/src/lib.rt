@@ -33,7 +33,6 @@ use config::Settings;
 use entries::Entry;
 use model::Queue;
 use model::Session;
-use rtp::ExtendedRtpTimestamp;
 use rtp::ExtendedSequenceNumber;
 use rtp::RtpTimestamp;
 use rtp::SequenceNumber;
@@ -139,10 +138,10 @@ pub(crate) fn drain(s: Session, gaps: &mut [u64], given: usize, instant: u64) ->
 }
 
 // How many gaps become lost as the entry of the number goes out.
-fn lost_below(q: Queue, gaps: &[u64], n: usize, number: u64) -> usize
+fn lost_below(q: Queue, gaps: &[u64], n: usize, number: ExtendedSequenceNumber) -> usize
     requires { ⌜ GAP-WORDS * n ≤ length (now gaps) ⌝ }
     requires { ⌜ ascends (gapNumbers (gapsOf (now gaps) n)) ≡ true ⌝ }
-    ensures { λ r. ⌜ r ≡ length (lostBelow (q .config .settings .mode) number (gapsOf (now (gaps .entry)) n)) ⌝ }
+    ensures { λ r. ⌜ r ≡ length (lostBelow (q .config .settings .mode) (number .0) (gapsOf (now (gaps .entry)) n)) ⌝ }
 {
     let config = q.config;
     let settings = config.settings;
@@ -233,8 +232,8 @@ fn packet(q: Queue, e: Entry) -> HandedOut
     let config = q.config;
     let senders = config.senders;
     let settings = config.settings;
-    let sequence_number = ExtendedSequenceNumber(e.number).truncated();
-    let timestamp = ExtendedRtpTimestamp(e.timestamp).truncated();
+    let sequence_number = e.number.truncated();
+    let timestamp = e.timestamp.truncated();
     let ssrc = senders.ssrc;
     let received_at = e.arrival;
     let delay = delay_of(settings);
@@ -324,7 +323,7 @@ pub fn poll(
     ensures { λ r. ⌜ Does (Calls.poll now (out .entry .now)) (stored session (entries .entry .now) (payloads .entry .now) (gaps .entry .now) (remembered .entry .now)) (Answers.pollAnswer (r .answer)) (stored (r .session) (entries .exit .now) (payloads .exit .now) (gaps .exit .now) (remembered .exit .now)) (out .exit .now) ⌝ }
 {
     let damaged = storage::session(session, entries, payloads, gaps, remembered);
-    let late = output_and_clock(session.queue, now, 320, out.len());
+    let late = output_and_clock(session.queue, now, rtp_packet::LARGEST_PAYLOAD, out.len());
     let early = refusals::or_else(damaged, late);
     if early != 0 {
         return Polled {

@@ -82,8 +82,8 @@ module _ (s : Session) (e : Row.Entry) (p : Code.Place) where
       let c = s .queue .counters in
       cond w ((c .received + 1) ∷ (c .bytes + e .size) ∷ cond (leb (s .queue .config .settings .«max_entries») (s .entries)) ((c .dropped + 1) ∷ []) []) ((c .dropped + 1) ∷ [])
 
-  pub packet-refusal-is : (r a b : ℕ) (w : Bool) → r ≡ orElse a b → w ≡ waits (place p) → a ≡ countRefusal (e .timestamp ∷ e .number ∷ raisedBy w)
-      → ((l : List Gap) → length l ≡ s .gaps → b ≡ refuseIf (tooManyGaps (s .queue .config .settings) l (e .number) (place p)) GAPS-FULL)
+  pub packet-refusal-is : (r a b : ℕ) (w : Bool) → r ≡ orElse a b → w ≡ waits (place p) → a ≡ countRefusal (e .timestamp .0 ∷ e .number .0 ∷ raisedBy w)
+      → ((l : List Gap) → length l ≡ s .gaps → b ≡ refuseIf (tooManyGaps (s .queue .config .settings) l (e .number .0) (place p)) GAPS-FULL)
       → (instant : ℕ) (payload : List ℕ) (st : State) → Counts s st → length payload ≡ e .size → r ≡ packetRefusal instant (entry e payload) (place p) st
   unfolding packetRefusal mediaValues overfull afterQueued heard
   packet-refusal-is r a b w hr hw ha hb instant payload st k size =
@@ -103,7 +103,7 @@ module _ (instant : ℕ) (e : Row.Entry) (payload : List ℕ) (p : Code.Place) (
   unfolding packetRefusal
   values = counts-of (mediaValues instant x (place p) (parse m)) (orElse-none _ _ (f .accepted) .0)
 
-  few-gaps : T (not (tooManyGaps (parse m .queue .config .settings) (parse m .gaps) (e .number) (place p)))
+  few-gaps : T (not (tooManyGaps (parse m .queue .config .settings) (parse m .gaps) (e .number .0) (place p)))
   unfolding packetRefusal
   few-gaps = not-refused _ GAPS-FULL (lit< tt) (orElse-none (countRefusal (mediaValues instant x (place p) (parse m))) _ (f .accepted) .1)
 
@@ -119,17 +119,17 @@ module _ (instant : ℕ) (e : Row.Entry) (payload : List ℕ) (p : Code.Place) (
     pub counters-fit : (m .session .queue .counters .received < largest) × (m .session .queue .counters .bytes + e .size ≤ largest)
     counters-fit = let i : e .size ≡ length payload = f .incoming .size in (omega (arith, raised .0), omega (arith, raised .1, i))
 
-    stands : Stands (highestOf (parse m .queue .last)) (parse m .gaps) (e .number) (place p)
+    stands : Stands (highestOf (parse m .queue .last)) (parse m .gaps) (e .number .0) (place p)
     stands =
-        let t : T (waits (mediaPlace (parse m) (e .number))) = subst T (sym (ap waits (sym (f .stands)) ∙ w)) tt in
-        subst (Stands (highestOf (parse m .queue .last)) (parse m .gaps) (e .number)) (sym (f .stands)) (waiting-stands (parse m) (e .number) t .1)
+        let t : T (waits (mediaPlace (parse m) (e .number .0))) = subst T (sym (ap waits (sym (f .stands)) ∙ w)) tt in
+        subst (Stands (highestOf (parse m .queue .last)) (parse m .gaps) (e .number .0)) (sym (f .stands)) (waiting-stands (parse m) (e .number .0) t .1)
 
-    gaps-ascend-after : ascends (gapNumbers (gapsAfter instant (e .number) (place p) (parse m .gaps))) ≡ true
+    gaps-ascend-after : ascends (gapNumbers (gapsAfter instant (e .number .0) (place p) (parse m .gaps))) ≡ true
     gaps-ascend-after =
         let l = ready-for .checked .sound .lists-in in
         is-true _ (ascends-of-rising (λ (g : Gap). g .number) _ (rising-after instant stands (l .gaps-rise) (each-imp (λ g k. k .under) (l .gaps-in))))
 
-    pub takes : Takes (m .storage .gaps) (m .session .gaps) (e .number) (place p)
+    pub takes : Takes (m .storage .gaps) (m .session .gaps) (e .number .0) (place p)
     unfolding parse Takes tooManyGaps
     takes = go stands few-gaps
       where
@@ -139,16 +139,16 @@ module _ (instant : ℕ) (e : Row.Entry) (payload : List ℕ) (p : Code.Place) (
         l : List Gap
         l = gapsOf (m .storage .gaps) (m .session .gaps)
 
-        room : (h : ℕ) → h < e .number → T (not (tooManyGaps set l (e .number) (near h))) → GAP-WORDS * (m .session .gaps + (e .number - (h + 1))) ≤ length (m .storage .gaps)
+        room : (h : ℕ) → h < e .number .0 → T (not (tooManyGaps set l (e .number .0) (near h))) → GAP-WORDS * (m .session .gaps + (e .number .0 - (h + 1))) ≤ length (m .storage .gaps)
         room h lt t =
             let k : length l ≡ m .session .gaps = length-gapsOf (m .storage .gaps) (m .session .gaps) in
             let size : length (m .storage .gaps) ≡ GAP-WORDS * set .«max_gaps» = ready-for .lengths .gaps in
             let fit : m .session .gaps ≤ set .«max_gaps» = ready-for .checked .counts .gaps in
-            by-nand (ltb (set .«max_gaps») (length l + ((e .number - h) - 1))) (leb 2 (e .number - h)) t
-            (λ few. omega (arith, nltb→le (set .«max_gaps») (length l + ((e .number - h) - 1)) few))
-            (λ one. omega (arith, nleb→lt 2 (e .number - h) one))
+            by-nand (ltb (set .«max_gaps») (length l + ((e .number .0 - h) - 1))) (leb 2 (e .number .0 - h)) t
+            (λ few. omega (arith, nltb→le (set .«max_gaps») (length l + ((e .number .0 - h) - 1)) few))
+            (λ one. omega (arith, nleb→lt 2 (e .number .0 - h) one))
 
-        go : {q : Place} → Stands (highestOf (m .session .queue .last)) l (e .number) q → T (not (tooManyGaps set l (e .number) q)) → Takes (m .storage .gaps) (m .session .gaps) (e .number) q
+        go : {q : Place} → Stands (highestOf (m .session .queue .last)) l (e .number .0) q → T (not (tooManyGaps set l (e .number .0) q)) → Takes (m .storage .gaps) (m .session .gaps) (e .number .0) q
         go (is-first at) t = tt
         go (is-near {h = h} at lt) t = (lt, room h lt t)
         go (is-far at lt) t = tt
@@ -170,14 +170,14 @@ module _ (instant : ℕ) (e : Row.Entry) (payload : List ℕ) (p : Code.Place) (
         rw (w, o)
 
     abbrev opened : List Gap
-    opened = gapsAfter instant (e .number) (place p) (gapsOf (m .storage .gaps) (m .session .gaps))
+    opened = gapsAfter instant (e .number .0) (place p) (gapsOf (m .storage .gaps) (m .session .gaps))
 
     remembered-is : m .storage .remembered ≡ rememberedLaid (after .remembered)
     unfolding write afterQueued
     remembered-is = ap (λ (y : Stored). y .storage .remembered) (f .settled .held)
 
     module _ (q : Queue) (k : ℕ) (gs : List ℕ)
-        (hq : q ≡ withLoss (withCounters (withLast (heard instant (e .timestamp) (m .session .queue)) (lastAfter instant (e .timestamp) (e .number) (place p) (m .session .queue .last))) (countReceived (e .size) (m .session .queue .counters))) (recordReceived (m .session .queue .loss)))
+        (hq : q ≡ withLoss (withCounters (withLast (heard instant (e .timestamp .0) (m .session .queue)) (lastAfter instant (e .timestamp .0) (e .number .0) (place p) (m .session .queue .last))) (countReceived (e .size) (m .session .queue .counters))) (recordReceived (m .session .queue .loss)))
         (hk : k ≡ length opened) (hg : gs ≡ laid gapWords (length (m .storage .gaps)) opened) where
       queued-is : q ≡ after .queue
       unfolding afterQueued heard parse
@@ -226,11 +226,11 @@ module _ (instant : ℕ) (e : Row.Entry) (payload : List ℕ) (p : Code.Place) (
         n-is : length l ≡ m .session .gaps
         n-is = length-gapsOf (m .storage .gaps) (m .session .gaps)
 
-        go : {q : Place} → Stands (highestOf (m .session .queue .last)) l (e .number) q → Takes (m .storage .gaps) (m .session .gaps) (e .number) q → GAP-WORDS * length (gapsAfter instant (e .number) q l) ≤ length (m .storage .gaps)
+        go : {q : Place} → Stands (highestOf (m .session .queue .last)) l (e .number .0) q → Takes (m .storage .gaps) (m .session .gaps) (e .number .0) q → GAP-WORDS * length (gapsAfter instant (e .number .0) q l) ≤ length (m .storage .gaps)
         go (is-first at) t = omega (arith, n-is, ready-for .gaps-in .room)
-        go (is-near {h = h} at lt) t = omega (arith, n-is, t .1, length-opened l instant h (e .number))
+        go (is-near {h = h} at lt) t = omega (arith, n-is, t .1, length-opened l instant h (e .number .0))
         go (is-far at lt) t = omega arith
-        go (is-gap h) t = omega (arith, n-is, ready-for .gaps-in .room, length-keep (λ (g : Gap). not (is (e .number) g)) l)
+        go (is-gap h) t = omega (arith, n-is, ready-for .gaps-in .room, length-keep (λ (g : Gap). not (is (e .number .0) g)) l)
         go is-other t = omega (arith, n-is, ready-for .gaps-in .room)
 
     module _ (k : ℕ) (gs : List ℕ) (hk : k ≡ length opened) (hg : gs ≡ laid gapWords (length (m .storage .gaps)) opened) where
@@ -254,7 +254,7 @@ module _ (instant : ℕ) (e : Row.Entry) (payload : List ℕ) (p : Code.Place) (
       opened-ascend = ap (λ (l : List Gap). ascends (gapNumbers l)) opened-are ∙ gaps-ascend-after
 
     module _ (high : m .session .queue .config .settings .«max_entries» ≤ m .session .entries) (q q2 : Queue) (k k2 front : ℕ) (gs gs2 es ps : List ℕ)
-        (hq : q ≡ withLoss (withCounters (withLast (heard instant (e .timestamp) (m .session .queue)) (lastAfter instant (e .timestamp) (e .number) (place p) (m .session .queue .last))) (countReceived (e .size) (m .session .queue .counters))) (recordReceived (m .session .queue .loss)))
+        (hq : q ≡ withLoss (withCounters (withLast (heard instant (e .timestamp .0) (m .session .queue)) (lastAfter instant (e .timestamp .0) (e .number .0) (place p) (m .session .queue .last))) (countReceived (e .size) (m .session .queue .counters))) (recordReceived (m .session .queue .loss)))
         (hk : k ≡ length opened) (hg : gs ≡ laid gapWords (length (m .storage .gaps)) opened) where
       pub still-fits : q .counters .dropped < largest
       unfolding countReceived
@@ -282,11 +282,11 @@ module _ (instant : ℕ) (e : Row.Entry) (payload : List ℕ) (p : Code.Place) (
 
   -- ---- dropped, or queued
 
-  pub dropped-packet : waits (place p) ≡ false → (q : Queue) → q ≡ withCounters (heard instant (e .timestamp) (m .session .queue)) (countDropped (m .session .queue .counters))
+  pub dropped-packet : waits (place p) ≡ false → (q : Queue) → q ≡ withCounters (heard instant (e .timestamp .0) (m .session .queue)) (countDropped (m .session .queue .counters))
       → stored (record { queue = q; entries = m .session .entries; gaps = m .session .gaps; remembered = m .session .remembered }) (m .storage .entries) (m .storage .payloads) (m .storage .gaps) (m .storage .remembered) ≡ write (placed instant x (place p) (parse m))
   unfolding placed afterDropped heard parse write
   dropped-packet w q hq =
-      written-as (afterDropped instant (e .timestamp) (parse m)) (record { queue = q; entries = m .session .entries; gaps = m .session .gaps; remembered = m .session .remembered }) (m .storage .entries) (m .storage .payloads) (m .storage .gaps) (m .storage .remembered)
+      written-as (afterDropped instant (e .timestamp .0) (parse m)) (record { queue = q; entries = m .session .entries; gaps = m .session .gaps; remembered = m .session .remembered }) (m .storage .entries) (m .storage .payloads) (m .storage .gaps) (m .storage .remembered)
       hq (ap (λ (y : Stored). y .session .entries) (f .settled .held)) (ap (λ (y : Stored). y .session .gaps) (f .settled .held)) (ap (λ (y : Stored). y .session .remembered) (f .settled .held))
       (ap (λ (y : Stored). y .storage .entries) (f .settled .held)) (ap (λ (y : Stored). y .storage .payloads) (f .settled .held)) (ap (λ (y : Stored). y .storage .gaps) (f .settled .held)) (ap (λ (y : Stored). y .storage .remembered) (f .settled .held))
       ∙ rw w

@@ -16,13 +16,14 @@ use Rattle.model.specs.Storage.{GAP-WORDS, gapsOf}
 use Rattle.model.proofs.Lists.{length-following, length-keep}
 use Rattle.model.proofs.Laid.{length-gapsOf}
 use Rattle.packet_gaps.proofs.Laws.{below-front, found-at}
+use Rattle.rtp.specs.declared.ExtendedSequenceNumber.{ExtendedSequenceNumber}
 use Rattle.session.specs.declared.push.Place.{Place}
 use Rattle.session.specs.declared.push.Place.the-variants.{Near, Fills}
 use Rattle.session.specs.Place.{place}
 use Rattle.push.specs.Media.{Takes}
 
 module _ (words : List ℕ) (n x : ℕ) (p : Place) (t : Takes words n x (place p)) where
-  pub near-takes : (h : ℕ) → p ≡ Near h → (h < x) × (GAP-WORDS * (n + (x - (h + 1))) ≤ length words)
+  pub near-takes : (h : ExtendedSequenceNumber) → p ≡ Near h → (h .0 < x) × (GAP-WORDS * (n + (x - (h .0 + 1))) ≤ length words)
   unfolding place Takes
   near-takes h e = rw e at t
 

@@ -39,13 +39,13 @@ incoming-of e payload instant size came h fit = record { size = size; fits = fit
 
 -- ---- an entry at its place
 
-module _ (instant : ℕ) (e : Row.Entry) (payload : List ℕ) (p : Code.Place) (m : Stored) (at : place p ≡ mediaPlace (parse m) (e .number)) where
+module _ (instant : ℕ) (e : Row.Entry) (payload : List ℕ) (p : Code.Place) (m : Stored) (at : place p ≡ mediaPlace (parse m) (e .number .0)) where
   pub fit-of : (m2 : Stored) → sessionSound m ≡ true → m2 ≡ write (parse m) → packetRefusal instant (entry e payload) (place p) (parse m) ≡ 0 → Incoming e payload → Fit instant e payload p m2
   fit-of m2 h w z i =
       let k = settled-of m m2 h w in
       record {
         settled = k .0;
-        stands = at ∙ ap (λ (t : State). mediaPlace t (e .number)) (sym (k .1));
+        stands = at ∙ ap (λ (t : State). mediaPlace t (e .number .0)) (sym (k .1));
         accepted = ap (packetRefusal instant (entry e payload) (place p)) (k .1) ∙ z;
         incoming = i;
       }

@@ -93,18 +93,18 @@ module _ (instant : ℕ) (e : Row.Entry) (m : Stored) (s : Settled m) where
   abbrev held : List Remembered
   held = rememberedOf (m .storage .remembered) (m .session .remembered)
 
-  pub taken-some : (o : Opt) → o ≡ instantOf (keep (isOf (e .number)) held) → (i : ℕ) → o ≡ Some i → 0 < m .session .remembered
+  pub taken-some : (o : Opt) → o ≡ instantOf (keep (isOf (e .number .0)) held) → (i : ℕ) → o ≡ Some i → 0 < m .session .remembered
   taken-some o h i g = let n : length held ≡ m .session .remembered = length-rememberedOf (m .storage .remembered) (m .session .remembered) in
-      omega (arith, left-some (length held) (length (forgetFirst (e .number) held)) (instantOf (keep (isOf (e .number)) held)) i (sym h ∙ g) (forget-left (e .number) held))
+      omega (arith, left-some (length held) (length (forgetFirst (e .number .0) held)) (instantOf (keep (isOf (e .number .0)) held)) i (sym h ∙ g) (forget-left (e .number .0) held))
 
-  pub late-is : (q : Queue) (o : Opt) (k : ℕ) (rs : List ℕ) → o ≡ instantOf (keep (isOf (e .number)) held)
+  pub late-is : (q : Queue) (o : Opt) (k : ℕ) (rs : List ℕ) → o ≡ instantOf (keep (isOf (e .number .0)) held)
       → q ≡ withRtx (withClock (m .session .queue) instant) (sampledAt instant o (recordTooLate (m .session .queue .rtx)))
-      → k ≡ leftAfter (m .session .remembered) o → rs ≡ laid rememberedWords (length (m .storage .remembered)) (forgetFirst (e .number) held)
+      → k ≡ leftAfter (m .session .remembered) o → rs ≡ laid rememberedWords (length (m .storage .remembered)) (forgetFirst (e .number .0) held)
       → (payload : List ℕ) → stored (record { queue = q; entries = m .session .entries; gaps = m .session .gaps; remembered = k }) (m .storage .entries) (m .storage .payloads) (m .storage .gaps) rs ≡ write (afterFate instant (entry e payload) tooLate (parse m))
   unfolding afterFate parse write laid rememberedLaid recordTooLate
   late-is q o k rs ho hq hk hr payload =
       let n : length held ≡ m .session .remembered = length-rememberedOf (m .storage .remembered) (m .session .remembered) in
-      let left : k ≡ length (forgetFirst (e .number) held) = hk ∙ ap (leftAfter (m .session .remembered)) ho ∙ ap (λ (j : ℕ). leftAfter j (instantOf (keep (isOf (e .number)) held))) (sym n) ∙ left-is (length held) (length (forgetFirst (e .number) held)) (instantOf (keep (isOf (e .number)) held)) (forget-left (e .number) held) in
+      let left : k ≡ length (forgetFirst (e .number .0) held) = hk ∙ ap (leftAfter (m .session .remembered)) ho ∙ ap (λ (j : ℕ). leftAfter j (instantOf (keep (isOf (e .number .0)) held))) (sym n) ∙ left-is (length held) (length (forgetFirst (e .number .0) held)) (instantOf (keep (isOf (e .number .0)) held)) (forget-left (e .number .0) held) in
       written-as (afterFate instant (entry e payload) tooLate (parse m)) (record { queue = q; entries = m .session .entries; gaps = m .session .gaps; remembered = k }) (m .storage .entries) (m .storage .payloads) (m .storage .gaps) rs
       (hq ∙ rw (ho, late-sample, ← sample-is)) (ap (λ (y : Stored). y .session .entries) (s .held)) (ap (λ (y : Stored). y .session .gaps) (s .held)) left
       (ap (λ (y : Stored). y .storage .entries) (s .held)) (ap (λ (y : Stored). y .storage .payloads) (s .held)) (ap (λ (y : Stored). y .storage .gaps) (s .held)) (hr ∙ rw (ready-late .lengths .remembered))
@@ -133,9 +133,9 @@ module _ (instant : ℕ) (e : Row.Entry) (payload : List ℕ) (m : Stored) (f : 
   pub ready-repair : Ready m (m .storage .entries) (m .storage .payloads) (m .storage .gaps) (m .storage .remembered)
   ready-repair = ready-late instant e m (f .settled)
 
-  pub open-gap : some? (is (e .number)) (gapsOf (m .storage .gaps) (m .session .gaps)) ≡ true
+  pub open-gap : some? (is (e .number .0)) (gapsOf (m .storage .gaps) (m .session .gaps)) ≡ true
   unfolding fate repairFate parse
-  open-gap = fate-some (passed (m .session .queue .config .settings .mode) (returnedOf (m .session .queue .returned)) (e .number)) _ (f .meets)
+  open-gap = fate-some (passed (m .session .queue .config .settings .mode) (returnedOf (m .session .queue .returned)) (e .number .0)) _ (f .meets)
 
   place-left : m .session .entries < entryPlaces (m .session .queue .config .settings)
   unfolding fate fateRefusal noPlace parse
@@ -147,11 +147,11 @@ module _ (instant : ℕ) (e : Row.Entry) (payload : List ℕ) (m : Stored) (f : 
   pub room-left : (ENTRY-WORDS * m .session .entries + ENTRY-WORDS ≤ length (m .storage .entries)) × (PAYLOAD-BYTES * m .session .entries + PAYLOAD-BYTES ≤ length (m .storage .payloads))
   room-left = (omega (arith, ready-repair .lengths .entries, place-left), omega (arith, ready-repair .lengths .payloads, place-left))
 
-  pub recovered-is : (q : Queue) (o : Opt) (es ps gs : List ℕ) → o ≡ onceOf (gapOf (e .number) (gapsOf (m .storage .gaps) (m .session .gaps)))
+  pub recovered-is : (q : Queue) (o : Opt) (es ps gs : List ℕ) → o ≡ onceOf (gapOf (e .number .0) (gapsOf (m .storage .gaps) (m .session .gaps)))
       → q ≡ withLoss (withRtx (withClock (m .session .queue) instant) (sampledAt instant o (recordInTime (m .session .queue .rtx) (e .size)))) (recordLost (m .session .queue .loss) 1)
       → es ≡ laid entryWords (length (m .storage .entries)) (insertSorted x (entriesOf (m .storage .entries) (m .storage .payloads) (m .session .entries)))
       → ps ≡ laid payloadBytes (length (m .storage .payloads)) (insertSorted x (entriesOf (m .storage .entries) (m .storage .payloads) (m .session .entries)))
-      → gs ≡ laid gapWords (length (m .storage .gaps)) (without (e .number) (gapsOf (m .storage .gaps) (m .session .gaps)))
+      → gs ≡ laid gapWords (length (m .storage .gaps)) (without (e .number .0) (gapsOf (m .storage .gaps) (m .session .gaps)))
       → stored (record { queue = q; entries = m .session .entries + 1; gaps = m .session .gaps - 1; remembered = m .session .remembered }) es ps gs (m .storage .remembered) ≡ write (afterFate instant x recovered (parse m))
   unfolding afterFate parse write laid entriesLaid payloadsLaid gapsLaid recordInTime
   recovered-is q o es ps gs ho hq he hp hg =
@@ -159,7 +159,7 @@ module _ (instant : ℕ) (e : Row.Entry) (payload : List ℕ) (m : Stored) (f : 
       let old = entriesOf (m .storage .entries) (m .storage .payloads) (m .session .entries) in
       let n : m .session .entries + 1 ≡ length (insertSorted x old) = omega (arith, length-insert x old, length-entriesOf (m .storage .entries) (m .storage .payloads) (m .session .entries)) in
       written-as (afterFate instant x recovered (parse m)) (record { queue = q; entries = m .session .entries + 1; gaps = m .session .gaps - 1; remembered = m .session .remembered }) es ps gs (m .storage .remembered)
-      (hq ∙ rw (ho, repair-sample, f .incoming .size, ← sample-is)) n (sym (length-filled (m .storage .gaps) (m .session .gaps) (e .number) (ready-repair .gaps-ascend) open-gap .1)) (ap (λ (y : Stored). y .session .remembered) (f .settled .held))
+      (hq ∙ rw (ho, repair-sample, f .incoming .size, ← sample-is)) n (sym (length-filled (m .storage .gaps) (m .session .gaps) (e .number .0) (ready-repair .gaps-ascend) open-gap .1)) (ap (λ (y : Stored). y .session .remembered) (f .settled .held))
       (he ∙ rw (l .entries)) (hp ∙ rw (l .payloads)) (hg ∙ rw (l .gaps)) (ap (λ (y : Stored). y .storage .remembered) (f .settled .held))
 
 -- ---- 14, then 13
@@ -176,7 +176,7 @@ places-are s tooLate = refl
 places-are s recovered = refl
 places-are s redundant = refl
 
-pub fate-refusal-is : (s : Session) (e : Row.Entry) (f : Code.Fate) (r a b : ℕ) → r ≡ orElse a b → a ≡ countRefusal (e .timestamp ∷ e .number ∷ raisedBy (s .queue .rtx) (e .size) (fate f)) → b ≡ entriesRefusal (2 * s .queue .config .settings .«max_entries») (s .entries) (fate f)
+pub fate-refusal-is : (s : Session) (e : Row.Entry) (f : Code.Fate) (r a b : ℕ) → r ≡ orElse a b → a ≡ countRefusal (e .timestamp .0 ∷ e .number .0 ∷ raisedBy (s .queue .rtx) (e .size) (fate f)) → b ≡ entriesRefusal (2 * s .queue .config .settings .«max_entries») (s .entries) (fate f)
     → (payload : List ℕ) (st : State) → Counts s st → length payload ≡ e .size → r ≡ fateRefusal (entry e payload) (fate f) st
 unfolding fateRefusal
 fate-refusal-is s e f r a b hr ha hb payload st k size = hr ∙ rw (ha, hb, values-are, places-are, k .queue, k .entries, size)
@@ -187,13 +187,13 @@ pub incoming-repair : (e : Row.Entry) (payload : List ℕ) → e .size ≡ lengt
 unfolding arrivalWord
 incoming-repair e payload size came fit = record { size = size; fits = fit; arrival = rw came (lit< tt) }
 
-module _ (instant : ℕ) (e : Row.Entry) (payload : List ℕ) (f : Code.Fate) (m : Stored) (at : fate f ≡ repairFate (parse m) (e .number)) where
+module _ (instant : ℕ) (e : Row.Entry) (payload : List ℕ) (f : Code.Fate) (m : Stored) (at : fate f ≡ repairFate (parse m) (e .number .0)) where
   pub fit-repair : (m2 : Stored) → sessionSound m ≡ true → m2 ≡ write (parse m) → fateRefusal (entry e payload) (fate f) (parse m) ≡ 0 → Incoming e payload → FitRepair e payload f m2
   fit-repair m2 h w z i =
       let k = settled-of m m2 h w in
       record {
         settled = k .0;
-        meets = at ∙ ap (λ (t : State). repairFate t (e .number)) (sym (k .1));
+        meets = at ∙ ap (λ (t : State). repairFate t (e .number .0)) (sym (k .1));
         accepted = ap (fateRefusal (entry e payload) (fate f)) (k .1) ∙ z;
         incoming = i;
       }

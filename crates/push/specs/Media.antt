@@ -68,6 +68,6 @@ Takes words n x other = Unit {0}
 -- the packet is accepted, and the storage settled
 pub record Fit (instant : ℕ) (e : Row.Entry) (payload : List ℕ) (p : Code.Place) (m : Stored) : Type 0 where
   pub settled : Settled m
-  pub stands : place p ≡ mediaPlace (parse m) (e .number)
+  pub stands : place p ≡ mediaPlace (parse m) (e .number .0)
   pub accepted : packetRefusal instant (entry e payload) (place p) (parse m) ≡ 0
   pub incoming : Incoming e payload

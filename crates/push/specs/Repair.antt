@@ -63,6 +63,6 @@ leftAfter n (Some i) = n - 1
 -- the repair is accepted, and the storage settled
 pub record FitRepair (e : Row.Entry) (payload : List ℕ) (f : Code.Fate) (m : Stored) : Type 0 where
   pub settled : Settled m
-  pub meets : fate f ≡ repairFate (parse m) (e .number)
+  pub meets : fate f ≡ repairFate (parse m) (e .number .0)
   pub accepted : fateRefusal (entry e payload) (fate f) (parse m) ≡ 0
   pub incoming : Incoming e payload

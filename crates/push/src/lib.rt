@@ -24,7 +24,6 @@ use entries::Entry;
 use model::LastReceived;
 use model::Queue;
 use model::Session;
-use rtp::ExtendedRtpTimestamp;
 use rtp::ExtendedSequenceNumber;
 use rtp::opt::Opt;
 use rtp_packet::Parsed;
@@ -48,13 +47,18 @@ pub struct Pushed {
 const MAX_GAP_SIZE: u64 = 1000;
 
 // Where the number x stands, after the highest so far, h.
-fn place_after(h: u64, gaps: &[u64], n: usize, x: u64) -> Place
+fn place_after(
+    h: ExtendedSequenceNumber,
+    gaps: &[u64],
+    n: usize,
+    x: ExtendedSequenceNumber,
+) -> Place
     requires { ⌜ GAP-WORDS * n ≤ length (now gaps) ⌝ }
     requires { ⌜ ascends (Records.gapNumbers (gapsOf (now gaps) n)) ≡ true ⌝ }
-    ensures { λ r. ⌜ Spec.place r ≡ Rules.placeOf (Opt.Some h) (gapsOf (now (gaps .entry)) n) x ⌝ }
+    ensures { λ r. ⌜ Spec.place r ≡ Rules.placeOf (Opt.Some (h .0)) (gapsOf (now (gaps .entry)) n) (x .0) ⌝ }
 {
-    if h < x {
-        if x - h <= MAX_GAP_SIZE {
+    if h.0 < x.0 {
+        if x.0 - h.0 <= MAX_GAP_SIZE {
             return Place::Near(h);
         }
         return Place::Far(h);
@@ -65,24 +69,24 @@ fn place_after(h: u64, gaps: &[u64], n: usize, x: u64) -> Place
     Place::Other
 }
 
-fn place_of(last: LastReceived, gaps: &[u64], n: usize, x: u64) -> Place
+fn place_of(last: LastReceived, gaps: &[u64], n: usize, x: ExtendedSequenceNumber) -> Place
     requires { ⌜ GAP-WORDS * n ≤ length (now gaps) ⌝ }
     requires { ⌜ ascends (Records.gapNumbers (gapsOf (now gaps) n)) ≡ true ⌝ }
-    ensures { λ r. ⌜ Spec.place r ≡ Rules.placeOf (Records.highestOf last) (gapsOf (now (gaps .entry)) n) x ⌝ }
+    ensures { λ r. ⌜ Spec.place r ≡ Rules.placeOf (Records.highestOf last) (gapsOf (now (gaps .entry)) n) (x .0) ⌝ }
 {
     match last {
         LastReceived::None => Place::First,
-        LastReceived::Some(r) => place_after(r.number.0, gaps, n, x),
+        LastReceived::Some(r) => place_after(r.number, gaps, n, x),
     }
 }
 
 // Where a media packet's number stands.
-fn media_place(q: Queue, gaps: &[u64], n: usize, x: u64) -> Place
+fn media_place(q: Queue, gaps: &[u64], n: usize, x: ExtendedSequenceNumber) -> Place
     requires { ⌜ GAP-WORDS * n ≤ length (now gaps) ⌝ }
     requires { ⌜ ascends (Records.gapNumbers (gapsOf (now gaps) n)) ≡ true ⌝ }
-    ensures { λ r. ⌜ Spec.place r ≡ cond (Push.passed (q .config .settings .mode) (Records.returnedOf (q .returned)) x) Rules.other (Rules.placeOf (Records.highestOf (q .last)) (gapsOf (now (gaps .entry)) n) x) ⌝ }
+    ensures { λ r. ⌜ Spec.place r ≡ cond (Push.passed (q .config .settings .mode) (Records.returnedOf (q .returned)) (x .0)) Rules.other (Rules.placeOf (Records.highestOf (q .last)) (gapsOf (now (gaps .entry)) n) (x .0)) ⌝ }
 {
-    if session::passed(q, ExtendedSequenceNumber(x)) {
+    if session::passed(q, x) {
         return Place::Other;
     }
     let last = q.last;
@@ -90,17 +94,23 @@ fn media_place(q: Queue, gaps: &[u64], n: usize, x: u64) -> Place
 }
 
 // 001's `report_received`: the gaps after a packet at this place; the answer is how many there are.
-fn gaps_after(gaps: &mut [u64], n: usize, place: Place, x: u64, instant: u64) -> usize
+fn gaps_after(
+    gaps: &mut [u64],
+    n: usize,
+    place: Place,
+    x: ExtendedSequenceNumber,
+    instant: u64,
+) -> usize
     requires { ⌜ GapsIn (now gaps) n ⌝ }
     requires { ⌜ ascends (Records.gapNumbers (gapsOf (now gaps) n)) ≡ true ⌝ }
-    requires { ⌜ Takes (now gaps) n x (Spec.place place) ⌝ }
-    ensures { λ r. ⌜ r ≡ length (Rules.gapsAfter instant x (Spec.place place) (gapsOf (now (gaps .entry)) n)) ⌝ }
-    ensures { λ _. ⌜ now (gaps .exit) ≡ laid gapWords (length (now (gaps .entry))) (Rules.gapsAfter instant x (Spec.place place) (gapsOf (now (gaps .entry)) n)) ⌝ }
+    requires { ⌜ Takes (now gaps) n (x .0) (Spec.place place) ⌝ }
+    ensures { λ r. ⌜ r ≡ length (Rules.gapsAfter instant (x .0) (Spec.place place) (gapsOf (now (gaps .entry)) n)) ⌝ }
+    ensures { λ _. ⌜ now (gaps .exit) ≡ laid gapWords (length (now (gaps .entry))) (Rules.gapsAfter instant (x .0) (Spec.place place) (gapsOf (now (gaps .entry)) n)) ⌝ }
 {
     match place {
         Place::Near(h) => {
             packet_gaps::open_between(gaps, n, h, x, instant);
-            n + (x - h - 1) as usize
+            n + (x.0 - h.0 - 1) as usize
         }
         Place::Far(_) => {
             packet_gaps::clear(gaps);
@@ -116,11 +126,11 @@ fn gaps_after(gaps: &mut [u64], n: usize, place: Place, x: u64, instant: u64) ->
 }
 
 // Leaves the gaps from the number x on; the answer is how many there are.
-fn gaps_from(gaps: &mut [u64], n: usize, x: u64) -> usize
+fn gaps_from(gaps: &mut [u64], n: usize, x: ExtendedSequenceNumber) -> usize
     requires { ⌜ GapsIn (now gaps) n ⌝ }
     requires { ⌜ ascends (Records.gapNumbers (gapsOf (now gaps) n)) ≡ true ⌝ }
-    ensures { λ r. ⌜ r ≡ length (Rules.gapsFrom x (gapsOf (now (gaps .entry)) n)) ⌝ }
-    ensures { λ _. ⌜ now (gaps .exit) ≡ laid gapWords (length (now (gaps .entry))) (Rules.gapsFrom x (gapsOf (now (gaps .entry)) n)) ⌝ }
+    ensures { λ r. ⌜ r ≡ length (Rules.gapsFrom (x .0) (gapsOf (now (gaps .entry)) n)) ⌝ }
+    ensures { λ _. ⌜ now (gaps .exit) ≡ laid gapWords (length (now (gaps .entry))) (Rules.gapsFrom (x .0) (gapsOf (now (gaps .entry)) n)) ⌝ }
 {
     let k = packet_gaps::count_below(gaps, n, x);
     packet_gaps::drain(gaps, n, k);
@@ -136,8 +146,8 @@ fn media_entry(q: Queue, instant: u64, p: RtpPacket, size: usize) -> Entry
     let timestamp = session::extended_timestamp(q, p.timestamp);
     Entry {
         arrival: Opt::Some(instant),
-        timestamp: timestamp.0,
-        number: number.0,
+        timestamp,
+        number,
         marker: p.marker,
         size,
     }
@@ -287,7 +297,7 @@ fn place_packet(
 {
     let mut session = s;
     if !session::push::waits(place) {
-        let queue = session::push::dropped(s.queue, instant, ExtendedRtpTimestamp(e.timestamp));
+        let queue = session::push::dropped(s.queue, instant, e.timestamp);
         session.queue = queue;
         return Pushed {
             answer: MediaAnswer::Dropped,

@@ -45,12 +45,12 @@ pub struct PushedRtx {
 }
 
 // What becomes of a repair of the number x.
-fn repair_fate(q: Queue, gaps: &[u64], n: usize, x: u64) -> Fate
+fn repair_fate(q: Queue, gaps: &[u64], n: usize, x: ExtendedSequenceNumber) -> Fate
     requires { ⌜ GAP-WORDS * n ≤ length (now gaps) ⌝ }
     requires { ⌜ ascends (Records.gapNumbers (gapsOf (now gaps) n)) ≡ true ⌝ }
-    ensures { λ r. ⌜ Spec.fate r ≡ cond (Push.passed (q .config .settings .mode) (Records.returnedOf (q .returned)) x) Push.tooLate (cond (some? (Rules.is x) (gapsOf (now (gaps .entry)) n)) Push.recovered Push.redundant) ⌝ }
+    ensures { λ r. ⌜ Spec.fate r ≡ cond (Push.passed (q .config .settings .mode) (Records.returnedOf (q .returned)) (x .0)) Push.tooLate (cond (some? (Rules.is (x .0)) (gapsOf (now (gaps .entry)) n)) Push.recovered Push.redundant) ⌝ }
 {
-    if session::passed(q, ExtendedSequenceNumber(x)) {
+    if session::passed(q, x) {
         return Fate::TooLate;
     }
     if packet_gaps::contains(gaps, n, x) {
@@ -68,8 +68,8 @@ fn original_entry(q: Queue, p: RtpPacket, number: SequenceNumber, size: usize) -
     let timestamp = session::extended_timestamp(q, p.timestamp);
     Entry {
         arrival: Opt::None,
-        timestamp: timestamp.0,
-        number: extended.0,
+        timestamp,
+        number: extended,
         marker: p.marker,
         size,
     }

@@ -28,16 +28,16 @@ use rtp::opt::Opt;
 use stats::OptRtxStats;
 
 // Nanoseconds until the front entry of a sorted queue, which has this timestamp, is due.
-fn until_front(set: Settings, last: LastReceived, timestamp: u64, now: u64) -> Opt
-    requires { ⌜ T (settingsValid set) × T (lastSound now last) × (timestamp ≤ largest) × (now ≤ largest) ⌝ }
-    ensures { λ r. ⌜ ((e : Entry) (es : List Entry) → e .timestamp ≡ timestamp → r ≡ Poll.receiveTimeout SortedQueue set last (e ∷ es) now) ⌝ }
+fn until_front(set: Settings, last: LastReceived, timestamp: ExtendedRtpTimestamp, now: u64) -> Opt
+    requires { ⌜ T (settingsValid set) × T (lastSound now last) × (timestamp .0 ≤ largest) × (now ≤ largest) ⌝ }
+    ensures { λ r. ⌜ ((e : Entry) (es : List Entry) → e .timestamp ≡ timestamp .0 → r ≡ Poll.receiveTimeout SortedQueue set last (e ∷ es) now) ⌝ }
 {
     match last {
         LastReceived::None => Opt::None,
         LastReceived::Some(r) => Opt::Some(handout::timeout_receive(
             r.instant,
             r.timestamp,
-            ExtendedRtpTimestamp(timestamp),
+            timestamp,
             set.clock_rate,
             set.target_delay(),
             now,

@@ -14,8 +14,8 @@ use Rattle.session.specs.declared.rtx.Fate.the-variants as Fate
 
 unfoldable pub place : Place → Rules.Place
 place Place.First = Rules.first
-place (Place.Near h) = Rules.near h
-place (Place.Far h) = Rules.far h
+place (Place.Near h) = Rules.near (h .0)
+place (Place.Far h) = Rules.far (h .0)
 place Place.Fills = Rules.fills
 place Place.Other = Rules.other
 

@@ -103,10 +103,10 @@ pub fn lose(q: Queue, n: u64) -> Queue
 }
 
 // The number is the last returned: handed out or pushed out.
-fn with_returned(q: Queue, number: u64) -> Queue
-    ensures { λ r. ⌜ r ≡ Records.withReturned q number ⌝ }
+fn with_returned(q: Queue, number: ExtendedSequenceNumber) -> Queue
+    ensures { λ r. ⌜ r ≡ Records.withReturned q (number .0) ⌝ }
 {
-    let returned = LastReturned::Some(ExtendedSequenceNumber(number));
+    let returned = LastReturned::Some(number);
     let config = q.config;
     let last = q.last;
     let rtx = q.rtx;

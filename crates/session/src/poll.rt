@@ -14,6 +14,8 @@ use config::RtpInboundQueueMode;
 use durations::LARGEST;
 use model::LastReceived;
 use model::Queue;
+use rtp::ExtendedRtpTimestamp;
+use rtp::ExtendedSequenceNumber;
 use rtp::opt::Opt;
 
 // 14, for the numbers lost.
@@ -39,27 +41,27 @@ pub fn drained(q: Queue, now: u64, lost: u64) -> Queue
 }
 
 // The entry of the number goes out, and the gaps below it are lost.
-pub fn handed_out(q: Queue, lost: u64, number: u64) -> Queue
+pub fn handed_out(q: Queue, lost: u64, number: ExtendedSequenceNumber) -> Queue
     requires { ⌜ q .counters .lost + lost < 2 ^ 64 ⌝ }
-    ensures { λ r. ⌜ r ≡ Records.withReturned (Poll.lose lost q) number ⌝ }
+    ensures { λ r. ⌜ r ≡ Records.withReturned (Poll.lose lost q) (number .0) ⌝ }
 {
     super::with_returned(super::lose(q, lost), number)
 }
 
-fn reaches(timestamp: u64, limit: Opt) -> bool
-    ensures { λ r. ⌜ r ≡ Poll.reaches timestamp limit ⌝ }
+fn reaches(timestamp: ExtendedRtpTimestamp, limit: Opt) -> bool
+    ensures { λ r. ⌜ r ≡ Poll.reaches (timestamp .0) limit ⌝ }
 {
     match limit {
         Opt::None => false,
-        Opt::Some(max) => timestamp <= max,
+        Opt::Some(max) => timestamp.0 <= max,
     }
 }
 
-fn sorted_ready(q: Queue, now: u64, timestamp: u64) -> bool
+fn sorted_ready(q: Queue, now: u64, timestamp: ExtendedRtpTimestamp) -> bool
     requires { ⌜ (q .clock ≤ now) × (now ≤ largest) ⌝ }
     requires { ⌜ T (settingsValid (q .config .settings)) ⌝ }
     requires { ⌜ T (Valid.lastSound (q .clock) (q .last)) ⌝ }
-    ensures { λ r. ⌜ ((e : Records.Entry) → e .timestamp ≡ timestamp → r ≡ Poll.ready q SortedQueue (q .last) now e) ⌝ }
+    ensures { λ r. ⌜ ((e : Records.Entry) → e .timestamp ≡ timestamp .0 → r ≡ Poll.ready q SortedQueue (q .last) now e) ⌝ }
 {
     let last = q.last;
     let config = q.config;
@@ -80,11 +82,11 @@ fn sorted_ready(q: Queue, now: u64, timestamp: u64) -> bool
 }
 
 // Whether an entry of the timestamp goes out where it is the first.
-pub fn ready(q: Queue, now: u64, timestamp: u64) -> bool
+pub fn ready(q: Queue, now: u64, timestamp: ExtendedRtpTimestamp) -> bool
     requires { ⌜ (q .clock ≤ now) × (now ≤ largest) ⌝ }
     requires { ⌜ T (settingsValid (q .config .settings)) ⌝ }
     requires { ⌜ T (Valid.lastSound (q .clock) (q .last)) ⌝ }
-    ensures { λ r. ⌜ ((e : Records.Entry) → e .timestamp ≡ timestamp → r ≡ Poll.ready q (q .config .settings .mode) (q .last) now e) ⌝ }
+    ensures { λ r. ⌜ ((e : Records.Entry) → e .timestamp ≡ timestamp .0 → r ≡ Poll.ready q (q .config .settings .mode) (q .last) now e) ⌝ }
 {
     let config = q.config;
     let settings = config.settings;

@@ -25,8 +25,8 @@ use rtp::ExtendedSequenceNumber;
 // Where a media number stands: before any other packet, above the highest by at most 1,000 or by more, in an open gap, or elsewhere.
 pub enum Place {
     First,
-    Near(u64),
-    Far(u64),
+    Near(ExtendedSequenceNumber),
+    Far(ExtendedSequenceNumber),
     Fills,
     Other,
 }
@@ -44,13 +44,17 @@ pub fn waits(place: Place) -> bool
     }
 }
 
-fn received_at(now: u64, timestamp: u64, number: u64) -> LastReceived
-    ensures { λ r. ⌜ r ≡ Push.lastAfter now timestamp number Rules.first LastReceived.None ⌝ }
+fn received_at(
+    now: u64,
+    timestamp: ExtendedRtpTimestamp,
+    number: ExtendedSequenceNumber,
+) -> LastReceived
+    ensures { λ r. ⌜ r ≡ Push.lastAfter now (timestamp .0) (number .0) Rules.first LastReceived.None ⌝ }
 {
     LastReceived::Some(Received {
         instant: now,
-        timestamp: ExtendedRtpTimestamp(timestamp),
-        number: ExtendedSequenceNumber(number),
+        timestamp,
+        number,
     })
 }
 
@@ -58,11 +62,11 @@ fn received_at(now: u64, timestamp: u64, number: u64) -> LastReceived
 fn last_after(
     last: LastReceived,
     now: u64,
-    timestamp: u64,
-    number: u64,
+    timestamp: ExtendedRtpTimestamp,
+    number: ExtendedSequenceNumber,
     place: Place,
 ) -> LastReceived
-    ensures { λ r. ⌜ r ≡ Push.lastAfter now timestamp number (Spec.place place) last ⌝ }
+    ensures { λ r. ⌜ r ≡ Push.lastAfter now (timestamp .0) (number .0) (Spec.place place) last ⌝ }
 {
     match place {
         Place::First => received_at(now, timestamp, number),
@@ -109,15 +113,22 @@ pub fn dropped(q: Queue, now: u64, timestamp: ExtendedRtpTimestamp) -> Queue
 }
 
 // The queue after a packet that is queued.
-pub fn queued(q: Queue, now: u64, timestamp: u64, number: u64, size: u64, place: Place) -> Queue
+pub fn queued(
+    q: Queue,
+    now: u64,
+    timestamp: ExtendedRtpTimestamp,
+    number: ExtendedSequenceNumber,
+    size: u64,
+    place: Place,
+) -> Queue
     requires { ⌜ (q .counters .received < largest) × (q .counters .bytes + size ≤ largest) ⌝ }
-    ensures { λ r. ⌜ r ≡ Records.withLoss (Records.withCounters (Records.withLast (Push.heard now timestamp q) (Push.lastAfter now timestamp number (Spec.place place) (q .last))) (Push.countReceived size (q .counters))) (Loss.recordReceived (q .loss)) ⌝ }
+    ensures { λ r. ⌜ r ≡ Records.withLoss (Records.withCounters (Records.withLast (Push.heard now (timestamp .0) q) (Push.lastAfter now (timestamp .0) (number .0) (Spec.place place) (q .last))) (Push.countReceived size (q .counters))) (Loss.recordReceived (q .loss)) ⌝ }
 {
     let counters = count_received(q.counters, size);
     let before = q.last;
     let last = last_after(before, now, timestamp, number, place);
     let loss = q.loss.record_received();
-    let heard = super::heard(q, now, ExtendedRtpTimestamp(timestamp));
+    let heard = super::heard(q, now, timestamp);
     let config = heard.config;
     let returned = heard.returned;
     let rtx = heard.rtx;
@@ -135,9 +146,9 @@ pub fn queued(q: Queue, now: u64, timestamp: u64, number: u64, size: u64, place:
 }
 
 // The queue after its front entry, of this number, was pushed out.
-pub fn pushed_out(q: Queue, number: u64) -> Queue
+pub fn pushed_out(q: Queue, number: ExtendedSequenceNumber) -> Queue
     requires { ⌜ q .counters .dropped < largest ⌝ }
-    ensures { λ r. ⌜ r ≡ Records.withReturned (Records.withCounters q (Push.countDropped (q .counters))) number ⌝ }
+    ensures { λ r. ⌜ r ≡ Records.withReturned (Records.withCounters q (Push.countDropped (q .counters))) (number .0) ⌝ }
 {
     let counters = count_dropped(q.counters);
     let mut next = q;
@@ -186,14 +197,21 @@ fn raised(c: Counters, size: u64, waits: bool, full: bool) -> u64
 }
 
 // 14
-pub fn counts(c: Counters, timestamp: u64, number: u64, size: u64, waits: bool, full: bool) -> u64
+pub fn counts(
+    c: Counters,
+    timestamp: ExtendedRtpTimestamp,
+    number: ExtendedSequenceNumber,
+    size: u64,
+    waits: bool,
+    full: bool,
+) -> u64
     requires { ⌜ (c .bytes ≤ largest) × (size ≤ largest) ⌝ }
-    ensures { λ r. ⌜ r ≡ Table.countRefusal (timestamp ∷ number ∷ cond waits ((c .received + 1) ∷ (c .bytes + size) ∷ cond full ((c .dropped + 1) ∷ []) []) ((c .dropped + 1) ∷ [])) ⌝ }
+    ensures { λ r. ⌜ r ≡ Table.countRefusal (timestamp .0 ∷ number .0 ∷ cond waits ((c .received + 1) ∷ (c .bytes + size) ∷ cond full ((c .dropped + 1) ∷ []) []) ((c .dropped + 1) ∷ [])) ⌝ }
 {
-    if LARGEST < timestamp {
+    if LARGEST < timestamp.0 {
         return refusals::COUNT;
     }
-    if LARGEST < number {
+    if LARGEST < number.0 {
         return refusals::COUNT;
     }
     raised(c, size, waits, full)
@@ -215,13 +233,13 @@ fn gaps_full(max_gaps: usize, opened: usize, s: u64) -> u64
 }
 
 // 12, where the gaps l are open.
-pub fn gaps(settings: Settings, opened: usize, number: u64, place: Place) -> u64
+pub fn gaps(settings: Settings, opened: usize, number: ExtendedSequenceNumber, place: Place) -> u64
     requires { ⌜ opened ≤ settings .«max_gaps» ⌝ }
-    ensures { λ r. ⌜ ((l : List Records.Gap) → length l ≡ opened → r ≡ Table.refuseIf (Table.tooManyGaps settings l number (Spec.place place)) Refusals.GAPS-FULL) ⌝ }
+    ensures { λ r. ⌜ ((l : List Records.Gap) → length l ≡ opened → r ≡ Table.refuseIf (Table.tooManyGaps settings l (number .0) (Spec.place place)) Refusals.GAPS-FULL) ⌝ }
 {
     match place {
         Place::Near(h) => {
-            let s = rtp::saturating_sub(number, h);
+            let s = rtp::saturating_sub(number.0, h.0);
             gaps_full(settings.max_gaps, opened, s)
         }
         Place::First => 0,

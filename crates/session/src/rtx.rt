@@ -10,6 +10,8 @@ ghost use Rattle.model.specs.Table as Table;
 ghost use Rattle.session.specs.Place as Spec;
 use durations::LARGEST;
 use model::Queue;
+use rtp::ExtendedRtpTimestamp;
+use rtp::ExtendedSequenceNumber;
 use rtp::opt::Opt;
 use rtx_state::RtxState;
 
@@ -83,14 +85,20 @@ fn raised(rtx: RtxState, size: u64, fate: Fate) -> u64
 }
 
 // 14
-pub fn counts(rtx: RtxState, timestamp: u64, number: u64, size: u64, fate: Fate) -> u64
+pub fn counts(
+    rtx: RtxState,
+    timestamp: ExtendedRtpTimestamp,
+    number: ExtendedSequenceNumber,
+    size: u64,
+    fate: Fate,
+) -> u64
     requires { ⌜ (rtx .«bytes_received» ≤ largest) × (size ≤ largest) ⌝ }
-    ensures { λ r. ⌜ r ≡ Table.countRefusal (timestamp ∷ number ∷ Spec.raisedBy rtx size (Spec.fate fate)) ⌝ }
+    ensures { λ r. ⌜ r ≡ Table.countRefusal (timestamp .0 ∷ number .0 ∷ Spec.raisedBy rtx size (Spec.fate fate)) ⌝ }
 {
-    if LARGEST < timestamp {
+    if LARGEST < timestamp.0 {
         return refusals::COUNT;
     }
-    if LARGEST < number {
+    if LARGEST < number.0 {
         return refusals::COUNT;
     }
     raised(rtx, size, fate)

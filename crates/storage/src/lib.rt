@@ -10,7 +10,12 @@ ghost use Rattle.model.specs.Table.{sessionSound, sessionRefusal, clockRefusal}
 ghost use Rattle.model.specs.Contract.{storage, stored};
 ghost use Rattle.storage.specs.Check.{numbersFit, listsSound};
 use config::Settings;
+use entries::ENTRY_WORDS;
+use entries::PAYLOAD_BYTES;
+use lost_nacked::MAX_LOST_NACKED;
+use lost_nacked::REMEMBERED_WORDS;
 use model::Session;
+use packet_gaps::GAP_WORDS;
 
 // Whether the slices have the lengths that the settings ask for.
 pub fn lengths_fit(
@@ -24,9 +29,10 @@ pub fn lengths_fit(
     ensures { λ r. ⌜ r ≡ lengthsFit set (storage (now (entries .entry)) (now (payloads .entry)) (now (gaps .entry)) (now (remembered .entry))) ⌝ }
 {
     let places = 2 * set.max_entries;
-    (entries.len() == 4 * places)
-        & ((payloads.len() == 320 * places)
-            & ((gaps.len() == 4 * set.max_gaps) & (remembered.len() == 2048)))
+    (entries.len() == ENTRY_WORDS * places)
+        & ((payloads.len() == PAYLOAD_BYTES * places)
+            & ((gaps.len() == GAP_WORDS * set.max_gaps)
+                & (remembered.len() == REMEMBERED_WORDS * MAX_LOST_NACKED)))
 }
 
 // "more than 2 · D entries, G gaps or 1,024 remembered"
@@ -36,7 +42,8 @@ fn counts_fit(s: Session) -> bool
 {
     let config = s.queue.config;
     let set = config.settings;
-    (s.entries <= 2 * set.max_entries) & ((s.gaps <= set.max_gaps) & (s.remembered <= 1024))
+    (s.entries <= 2 * set.max_entries)
+        & ((s.gaps <= set.max_gaps) & (s.remembered <= MAX_LOST_NACKED))
 }
 
 // Row 16 for the three lists. The payloads' bytes are not looked at.

@@ -20,11 +20,11 @@ same-length : tie.Need-same-length
 same-length c = search needs
 
 returns : tie.Need-returns
-returns c = let s = c .before .before .before .before .before .before in
-    let r = c .before .rank-of in
+returns c = let s = c .before .before .before .before .before .before .before in
+    let r = c .before .before .rank-of in
     let k = s .pre .0 in
-    let z = none-out (s .args .words .now) (s .args .bytes .now) (s .args .n) (r .result) (entry (s .args .e) (s .args .payload .now)) (r .ensures) k (c .if1 .taken) in
-    (self-out (s .args .words .now) (s .args .bytes .now) (s .args .n) (r .result) (entry (s .args .e) (s .args .payload .now)) (r .ensures) k (c .if1 .taken), (k .held ∙ ap (laid entryWords (length (s .args .words .now))) (sym z), k .filled ∙ ap (laid payloadBytes (length (s .args .bytes .now))) (sym z)))
+    let z = none-out (s .args .words .now) (s .args .bytes .now) (s .args .n) (r .result) (entry (s .args .e) (s .args .payload .now)) (r .ensures) k (c .before .if1 .taken) in
+    (self-out (s .args .words .now) (s .args .bytes .now) (s .args .n) (r .result) (entry (s .args .e) (s .args .payload .now)) (r .ensures) k (c .before .if1 .taken), (k .held ∙ ap (laid entryWords (length (s .args .words .now))) (sym z), k .filled ∙ ap (laid payloadBytes (length (s .args .bytes .now))) (sym z)))
 
 slice-read-first : tie.Need-slice-read-first
 slice-read-first c = let s = c .before .before .before .before .before .before .before in

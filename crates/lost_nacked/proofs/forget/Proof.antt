@@ -33,13 +33,13 @@ same-length : tie.Need-same-length
 same-length c = search needs
 
 returns : tie.Need-returns
-returns c = let s = c .before .before .before .before .before .before .before .before .before in (forget-instant (s .args .s .now) (s .args .n) (s .args .x) (c .before .before .before .before .before .before .position .result) (s .pre) (c .before .before .before .before .before .before .position .ensures) (c .before .before .before .before .before .if1 .taken), c .before .before .remove .ensures ∙ forget-words (s .args .s .now) (s .args .n) (s .args .x) (c .before .before .before .before .before .before .position .result) (s .pre) (c .before .before .before .before .before .before .position .ensures) (c .before .before .before .before .before .if1 .taken))
+returns c = let s = c .before .before .before .before .before .before .before .before .before in (forget-instant (s .args .s .now) (s .args .n) (s .args .x .0) (c .before .before .before .before .before .before .position .result) (s .pre) (c .before .before .before .before .before .before .position .ensures) (c .before .before .before .before .before .if1 .taken), c .before .before .remove .ensures ∙ forget-words (s .args .s .now) (s .args .n) (s .args .x .0) (c .before .before .before .before .before .before .position .result) (s .pre) (c .before .before .before .before .before .before .position .ensures) (c .before .before .before .before .before .if1 .taken))
 
 same-length-2 : tie.Need-same-length-2
 same-length-2 c = search needs
 
 returns-2 : tie.Need-returns-2
-returns-2 c = let s = c .before .before .before .before in (forget-none (s .args .s .now) (s .args .n) (s .args .x) (c .before .position .result) (s .pre) (c .before .position .ensures) (c .if1 .left), forget-same (s .args .s .now) (s .args .n) (s .args .x) (c .before .position .result) (s .pre) (c .before .position .ensures) (c .if1 .left))
+returns-2 c = let s = c .before .before .before .before in (forget-none (s .args .s .now) (s .args .n) (s .args .x .0) (c .before .position .result) (s .pre) (c .before .position .ensures) (c .if1 .left), forget-same (s .args .s .now) (s .args .n) (s .args .x .0) (c .before .position .result) (s .pre) (c .before .position .ensures) (c .if1 .left))
 
 pub forget-spec : {M : Type 1} → statement M
 forget-spec =

@@ -12,7 +12,7 @@ use Rattle.lost_nacked.proofs.position.Statement.{statement}
 use Rattle.lost_nacked.proofs.position.Tie as tie
 
 abbrev Inv-loop : tie.InvT-loop
-Inv-loop s n x i₀ i = (length (leading (apart x) (rememberedOf s n)) ≡ i + length (leading (apart x) (drop i (rememberedOf s n)))) × (i ≤ n)
+Inv-loop s n x i₀ i = (length (leading (apart (x .0)) (rememberedOf s n)) ≡ i + length (leading (apart (x .0)) (drop i (rememberedOf s n)))) × (i ≤ n)
 
 abbrev μ-loop : tie.MeasureT-loop
 μ-loop s n x i₀ i = n - i
@@ -30,7 +30,7 @@ shared-slice-read-if1 : tie.Need-shared-slice-read-if1 Inv-loop μ-loop
 shared-slice-read-if1 c = search needs
 
 returns : tie.Need-returns Inv-loop μ-loop
-returns c = let s = c .before .before .before .before in let l = c .before .before .before .loop in omega (arith, l .inv .0, position-found (s .args .s .now) (s .args .n) (l .i) (s .args .x) (c .before .before .loop-test .taken) (c .if1 .taken))
+returns c = let s = c .before .before .before .before .before in let l = c .before .before .before .before .loop in omega (arith, l .inv .0, position-found (s .args .s .now) (s .args .n) (l .i) (s .args .x .0) (c .before .before .before .loop-test .taken) (c .if1 .taken))
 
 add-i : tie.Need-add-i Inv-loop μ-loop
 add-i c = search needs
@@ -39,10 +39,10 @@ loop-less : tie.Need-loop-less Inv-loop μ-loop
 loop-less c = search needs
 
 loop-again : tie.Need-loop-again Inv-loop μ-loop
-loop-again c = let s = c .before .before .before .before in let l = c .before .before .before .loop in (omega (arith, l .inv .0, position-more (s .args .s .now) (s .args .n) (l .i) (s .args .x) (c .before .before .loop-test .taken) (c .if1 .left)), search needs)
+loop-again c = let s = c .before .before .before .before .before in let l = c .before .before .before .before .loop in (omega (arith, l .inv .0, position-more (s .args .s .now) (s .args .n) (l .i) (s .args .x .0) (c .before .before .before .loop-test .taken) (c .if1 .left)), search needs)
 
 returns-2 : tie.Need-returns-2 Inv-loop μ-loop
-returns-2 c = let s = c .before .before in let l = c .before .loop in omega (arith, l .inv .0, position-end (s .args .s .now) (s .args .n) (l .i) (s .args .x) (c .loop-test .left))
+returns-2 c = let s = c .before .before in let l = c .before .loop in omega (arith, l .inv .0, position-end (s .args .s .now) (s .args .n) (l .i) (s .args .x .0) (c .loop-test .left))
 
 pub position-spec : {M : Type 1} → statement M
 position-spec =

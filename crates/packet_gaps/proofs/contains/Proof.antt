@@ -17,12 +17,12 @@ shared-slice-read-result : tie.Need-shared-slice-read-result
 shared-slice-read-result c = search needs
 
 returns : tie.Need-returns
-returns c = let s = c .before .before .before .before in
-    contains-at (s .args .s .now) (s .args .n) (s .pre .1) (s .args .x) _ (c .before .before .rank-of .ensures) (c .before .if1 .taken)
+returns c = let s = c .before .before .before .before .before in
+    contains-at (s .args .s .now) (s .args .n) (s .pre .1) (s .args .x .0) _ (c .before .before .before .rank-of .ensures) (c .before .before .if1 .taken)
 
 returns-2 : tie.Need-returns-2
 returns-2 c = let s = c .before .before .before in
-    contains-past (s .args .s .now) (s .args .n) (s .pre .1) (s .args .x) _ (c .before .rank-of .ensures) (c .if1 .left)
+    contains-past (s .args .s .now) (s .args .n) (s .pre .1) (s .args .x .0) _ (c .before .rank-of .ensures) (c .if1 .left)
 
 pub contains-spec : {M : Type 1} → statement M
 contains-spec =

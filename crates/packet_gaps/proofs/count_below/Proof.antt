@@ -8,7 +8,7 @@ rank-of-requires : tie.Need-rank-of-requires
 rank-of-requires c κs = (search needs, firsts-ascend _ _ (c .before .pre .1))
 
 returns : tie.Need-returns
-returns c = let s = c .before .before in count-is (s .args .s .now) (s .args .n) (s .pre .1) (s .args .x) _ (c .rank-of .ensures)
+returns c = let s = c .before .before in count-is (s .args .s .now) (s .args .n) (s .pre .1) (s .args .x .0) _ (c .rank-of .ensures)
 
 pub count-below-spec : {M : Type 1} → statement M
 count-below-spec = tie.close (tie.spec rank-of-requires returns)

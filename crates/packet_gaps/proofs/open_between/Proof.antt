@@ -1,5 +1,6 @@
 -- `packet_gaps::open_between` meets its contract: the loop keeps `Opening`.
 use Prim.Native.Nat.{_-_}
+use native.Mathlib.Omega.{arith}
 use Rattle.model.specs.Rules.{fresh}
 use Rattle.packet_gaps.proofs.Opening.{Opening, opening-none, opening-more, opening-all}
 use borrow.Author.Needs.{needs}
@@ -7,16 +8,16 @@ use Rattle.packet_gaps.proofs.open_between.Statement.{statement}
 use Rattle.packet_gaps.proofs.open_between.Tie as tie
 
 abbrev Inv-loop : tie.InvT-loop
-Inv-loop s₀ n h x at number₀ i₀ s number i = Opening s₀ s n h x at number i
+Inv-loop s₀ n x at number₀ i₀ s number i = Opening s₀ s n number₀ (x .0) at number i
 
 abbrev μ-loop : tie.MeasureT-loop
-μ-loop s₀ n h x at number₀ i₀ s number i = x - number
+μ-loop s₀ n x at number₀ i₀ s number i = x .0 - number
 
 add-number : tie.Need-add-number Inv-loop μ-loop
 add-number c = search needs
 
 loop-holds : tie.Need-loop-holds Inv-loop μ-loop
-loop-holds c = let s = c .before in opening-none (s .args .s .now) (s .args .n) (s .args .h) (s .args .x) (s .args .at) (s .pre .0) (s .pre .1 .0) (s .pre .1 .1)
+loop-holds c = let s = c .before .before in opening-none (s .args .s .now) (s .args .n) _ (s .args .x .0) (s .args .at) (s .pre .0) (omega arith) (s .pre .1 .1)
 
 write-requires : tie.Need-write-requires Inv-loop μ-loop
 write-requires c κs = search needs
@@ -32,14 +33,15 @@ loop-less c = search needs
 
 loop-again : tie.Need-loop-again Inv-loop μ-loop
 unfolding fresh
-loop-again c = let l = c .before .before .before .before .before .loop in
-    opening-more _ (l .s) _ _ _ _ _ (l .number) (l .i) (l .inv) (c .before .before .before .before .loop-test .taken) (c .before .before .write .ensures)
+loop-again c = let l = c .before .before .before .before .before .before .loop in
+    opening-more _ (l .s) _ _ _ _ _ (l .number) (l .i) (l .inv) (c .before .before .before .before .if1 .taken) (c .before .before .write .ensures)
 
 same-length : tie.Need-same-length Inv-loop μ-loop
 same-length c = search needs
 
 returns : tie.Need-returns Inv-loop μ-loop
-returns c = let l = c .before .loop in opening-all _ (l .s) _ _ _ _ (l .number) (l .i) (l .inv) (c .loop-test .left)
+returns c = let l = c .before .before .loop in let s = c .before .before .before .before .before in
+    opening-all _ (l .s) _ (s .args .h .0) _ _ (l .number) (l .i) (l .inv) (c .if1 .left)
 
 pub open-between-spec : {M : Type 1} → statement M
 open-between-spec =

@@ -15,18 +15,18 @@ rank-of-requires c κs = let s = c .before .before in (search needs, firsts-asce
 
 read-requires : tie.Need-read-requires
 read-requires c κs = let s = c .before .before .before .before in
-    omega (arith, found-in (s .args .s .now) (s .args .n) (s .pre .1 .0) (s .args .x) _ (c .before .rank-of .ensures) (s .pre .1 .1))
+    omega (arith, found-in (s .args .s .now) (s .args .n) (s .pre .1 .0) (s .args .x .0) _ (c .before .rank-of .ensures) (s .pre .1 .1))
 
 mul-remove : tie.Need-mul-remove
 mul-remove c = search needs
 
 mul-remove-2 : tie.Need-mul-remove-2
 mul-remove-2 c = let s = c .before .before .before .before .before .before in
-    omega (arith, found-in (s .args .s .now) (s .args .n) (s .pre .1 .0) (s .args .x) _ (c .before .before .before .rank-of .ensures) (s .pre .1 .1))
+    omega (arith, found-in (s .args .s .now) (s .args .n) (s .pre .1 .0) (s .args .x .0) _ (c .before .before .before .rank-of .ensures) (s .pre .1 .1))
 
 remove-requires : tie.Need-remove-requires
 remove-requires c κs = let s = c .before .before .before .before .before .before in
-    let h = found-in (s .args .s .now) (s .args .n) (s .pre .1 .0) (s .args .x) _ (c .before .before .before .rank-of .ensures) (s .pre .1 .1) in
+    let h = found-in (s .args .s .now) (s .args .n) (s .pre .1 .0) (s .args .x .0) _ (c .before .before .before .rank-of .ensures) (s .pre .1 .1) in
     omega arith
 
 nacked-once-requires : tie.Need-nacked-once-requires
@@ -39,13 +39,13 @@ returns : tie.Need-returns
 unfolding onceOf
 returns c = let s = c .before .before .before .before .before .before .before .before .before .before in
     let r = c .before .before .before .before .before .before .before .rank-of in
-    let h = found-in (s .args .s .now) (s .args .n) (s .pre .1 .0) (s .args .x) _ (r .ensures) (s .pre .1 .1) in (
+    let h = found-in (s .args .s .now) (s .args .n) (s .pre .1 .0) (s .args .x .0) _ (r .ensures) (s .pre .1 .1) in (
       c .nacked-once .ensures
           ∙ ap nackedOnce (c .before .before .before .before .before .read .ensures ∙ sym (gap-at (s .args .s .now) (s .args .n) (r .result) h))
-          ∙ ap onceOf (sym (found-is (s .args .s .now) (s .args .n) (s .pre .1 .0) (s .args .x) _ (r .ensures) (s .pre .1 .1))),
+          ∙ ap onceOf (sym (found-is (s .args .s .now) (s .args .n) (s .pre .1 .0) (s .args .x .0) _ (r .ensures) (s .pre .1 .1))),
       c .before .before .before .remove .ensures
           ∙ gaps-cut (s .args .s .now) (s .args .n) (s .pre .0) (r .result) 1 (omega arith)
-          ∙ ap (laid gapWords (length (s .args .s .now))) (sym (without-is (s .args .s .now) (s .args .n) (s .pre .1 .0) (s .args .x) _ (r .ensures) (s .pre .1 .1))),
+          ∙ ap (laid gapWords (length (s .args .s .now))) (sym (without-is (s .args .s .now) (s .args .n) (s .pre .1 .0) (s .args .x .0) _ (r .ensures) (s .pre .1 .1))),
     )
 
 pub remove-spec : {M : Type 1} → statement M

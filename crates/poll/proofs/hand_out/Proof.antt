@@ -19,7 +19,7 @@ pop-front-requires : tie.Need-pop-front-requires
 pop-front-requires c κs = search needs
 
 -- what is lost stands below the entry that goes
-below : (c : tie.After-pop-front) → (let a = c .before .before .before .before .before .before .before .before .before .before .args in a .lost ≡ length (lostBelow (a .s .queue .config .settings .mode) (c .pop-front .result .number) (gapsOf (a .gaps .now) (a .s .gaps))))
+below : (c : tie.After-pop-front) → (let a = c .before .before .before .before .before .before .before .before .before .before .args in a .lost ≡ length (lostBelow (a .s .queue .config .settings .mode) (c .pop-front .result .number .0) (gapsOf (a .gaps .now) (a .s .gaps))))
 unfolding lostUnder
 below c =
     let s = c .before .before .before .before .before .before .before .before .before .before in
@@ -31,7 +31,7 @@ few : (c : tie.After-pop-front) → (let a = c .before .before .before .before .
 few c =
     let s = c .before .before .before .before .before .before .before .before .before .before in
     let a = s .args in
-    lost-few (a .s .queue .config .settings .mode) (a .gaps .now) (a .s .gaps) (c .pop-front .result .number) (a .lost) (s .pre .0 .ascend) (below c)
+    lost-few (a .s .queue .config .settings .mode) (a .gaps .now) (a .s .gaps) (c .pop-front .result .number .0) (a .lost) (s .pre .0 .ascend) (below c)
 
 remember-requires : tie.Need-remember-requires
 remember-requires c κs =

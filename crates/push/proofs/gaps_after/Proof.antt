@@ -16,22 +16,22 @@ enum-known-place c = search needs
 
 open-between-requires : tie.Need-open-between-requires
 open-between-requires c κs = let s = c .before .before .before .before .before in
-    let t = near-takes (s .args .gaps .now) (s .args .n) (s .args .x) (s .args .place) (s .pre .1 .1) _ (c .before .before .place .given .1) in
+    let t = near-takes (s .args .gaps .now) (s .args .n) (s .args .x .0) (s .args .place) (s .pre .1 .1) _ (c .before .before .place .given .1) in
     (s .pre .0, t)
 
 sub-result : tie.Need-sub-result
-sub-result c = let s = c .before .before .before .before .before .before .before .before in
-    let t = near-takes (s .args .gaps .now) (s .args .n) (s .args .x) (s .args .place) (s .pre .1 .1) _ (c .before .before .before .before .before .place .given .1) in
+sub-result c = let s = c .before .before .before .before .before .before .before .before .before .before in
+    let t = near-takes (s .args .gaps .now) (s .args .n) (s .args .x .0) (s .args .place) (s .pre .1 .1) _ (c .before .before .before .before .before .before .before .place .given .1) in
     omega (arith, t .0)
 
 sub-result-2 : tie.Need-sub-result-2
-sub-result-2 c = let s = c .before .before .before .before .before .before .before .before in
-    let t = near-takes (s .args .gaps .now) (s .args .n) (s .args .x) (s .args .place) (s .pre .1 .1) _ (c .before .before .before .before .before .place .given .1) in
+sub-result-2 c = let s = c .before .before .before .before .before .before .before .before .before .before in
+    let t = near-takes (s .args .gaps .now) (s .args .n) (s .args .x .0) (s .args .place) (s .pre .1 .1) _ (c .before .before .before .before .before .before .before .place .given .1) in
     omega (arith, t .0)
 
 add-result : tie.Need-add-result
-add-result c = let s = c .before .before .before .before .before .before .before .before in
-    let t = near-takes (s .args .gaps .now) (s .args .n) (s .args .x) (s .args .place) (s .pre .1 .1) _ (c .before .before .before .before .before .place .given .1) in
+add-result c = let s = c .before .before .before .before .before .before .before .before .before .before in
+    let t = near-takes (s .args .gaps .now) (s .args .n) (s .args .x .0) (s .args .place) (s .pre .1 .1) _ (c .before .before .before .before .before .before .before .place .given .1) in
     omega (arith, t .0, t .1)
 
 enum-told : tie.Need-enum-told
@@ -45,11 +45,11 @@ enum-told-2 c = search needs
 
 remove-requires : tie.Need-remove-requires
 remove-requires c κs = let s = c .before .before .before .before in
-    (s .pre .0, (s .pre .1 .0, fills-takes (s .args .gaps .now) (s .args .n) (s .args .x) (s .args .place) (s .pre .1 .1) (c .before .enum-told2 .given .1)))
+    (s .pre .0, (s .pre .1 .0, fills-takes (s .args .gaps .now) (s .args .n) (s .args .x .0) (s .args .place) (s .pre .1 .1) (c .before .enum-told2 .given .1)))
 
 sub-result-3 : tie.Need-sub-result-3
 sub-result-3 c = let s = c .before .before .before .before .before .before .before in
-    omega (arith, length-filled (s .args .gaps .now) (s .args .n) (s .args .x) (s .pre .1 .0) (fills-takes (s .args .gaps .now) (s .args .n) (s .args .x) (s .args .place) (s .pre .1 .1) (c .before .before .before .before .enum-told2 .given .1)) .0)
+    omega (arith, length-filled (s .args .gaps .now) (s .args .n) (s .args .x .0) (s .pre .1 .0) (fills-takes (s .args .gaps .now) (s .args .n) (s .args .x .0) (s .args .place) (s .pre .1 .1) (c .before .before .before .before .enum-told2 .given .1)) .0)
 
 enum-told-3 : tie.Need-enum-told-3
 enum-told-3 c = search needs
@@ -62,11 +62,11 @@ same-length c = search needs
 
 returns : tie.Need-returns
 unfolding place gapsAfter
-returns c = let s = c .before .before .before .before .before .before .before .before in
-    let h = c .before .before .before .before .before .place .given .0 .0 in
-    let l = length-opened (gapsOf (s .args .gaps .now) (s .args .n)) (s .args .instant) h (s .args .x) in
+returns c = let s = c .before .before .before .before .before .before .before .before .before .before in
+    let h = c .before .before .before .before .before .before .before .place .given .0 .0 .0 in
+    let l = length-opened (gapsOf (s .args .gaps .now) (s .args .n)) (s .args .instant) h (s .args .x .0) in
     let k : length (gapsOf (s .args .gaps .now) (s .args .n)) ≡ s .args .n = length-gapsOf (s .args .gaps .now) (s .args .n) in
-    rw (c .before .before .before .before .before .place .given .1) (omega (arith, l, k), c .before .before .open-between .ensures)
+    rw (c .before .before .before .before .before .before .before .place .given .1) (omega (arith, l, k), c .before .before .before .before .open-between .ensures)
 
 same-length-2 : tie.Need-same-length-2
 same-length-2 c = search needs
@@ -82,8 +82,8 @@ returns-3 : tie.Need-returns-3
 unfolding place gapsAfter
 returns-3 c = let s = c .before .before .before .before .before .before .before in
     let e = c .before .before .before .before .enum-told2 .given .1 in
-    let t = fills-takes (s .args .gaps .now) (s .args .n) (s .args .x) (s .args .place) (s .pre .1 .1) e in
-    rw e (sym (length-filled (s .args .gaps .now) (s .args .n) (s .args .x) (s .pre .1 .0) t .1), c .before .before .remove .ensures .1)
+    let t = fills-takes (s .args .gaps .now) (s .args .n) (s .args .x .0) (s .args .place) (s .pre .1 .1) e in
+    rw e (sym (length-filled (s .args .gaps .now) (s .args .n) (s .args .x .0) (s .pre .1 .0) t .1), c .before .before .remove .ensures .1)
 
 returns-4 : tie.Need-returns-4
 unfolding place gapsAfter

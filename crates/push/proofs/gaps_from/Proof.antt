@@ -15,10 +15,10 @@ count-below-requires c κs = search needs
 
 drain-requires : tie.Need-drain-requires
 drain-requires c κs = let s = c .before .before .before .before in
-    (s .pre .0, omega (arith, c .before .count-below .ensures, below-few (s .args .gaps .now) (s .args .n) (s .args .x) (s .pre .1)))
+    (s .pre .0, omega (arith, c .before .count-below .ensures, below-few (s .args .gaps .now) (s .args .n) (s .args .x .0) (s .pre .1)))
 
 sub-result : tie.Need-sub-result
-sub-result c = let s = c .before .before .before .before .before .before .before in omega (arith, c .before .before .before .before .count-below .ensures, below-few (s .args .gaps .now) (s .args .n) (s .args .x) (s .pre .1))
+sub-result c = let s = c .before .before .before .before .before .before .before in omega (arith, c .before .before .before .before .count-below .ensures, below-few (s .args .gaps .now) (s .args .n) (s .args .x .0) (s .pre .1))
 
 same-length : tie.Need-same-length
 same-length c = search needs
@@ -26,8 +26,8 @@ same-length c = search needs
 returns : tie.Need-returns
 returns c = let s = c .before .before .before .before .before .before .before in
     let k = c .before .before .before .before .count-below .ensures in (
-      omega (arith, k, length-from (s .args .gaps .now) (s .args .n) (s .args .x) (s .pre .1)),
-      c .before .before .drain .ensures ∙ ap (laid gapWords (length (s .args .gaps .now))) (ap (λ (i : ℕ). drop i (gapsOf (s .args .gaps .now) (s .args .n))) k ∙ sym (from-is (s .args .gaps .now) (s .args .n) (s .args .x) (s .pre .1))),
+      omega (arith, k, length-from (s .args .gaps .now) (s .args .n) (s .args .x .0) (s .pre .1)),
+      c .before .before .drain .ensures ∙ ap (laid gapWords (length (s .args .gaps .now))) (ap (λ (i : ℕ). drop i (gapsOf (s .args .gaps .now) (s .args .n))) k ∙ sym (from-is (s .args .gaps .now) (s .args .n) (s .args .x .0) (s .pre .1))),
     )
 
 pub gaps-from-spec : {M : Type 1} → statement M

@@ -11,11 +11,11 @@ sub-if2 c = search needs
 
 returns : tie.Need-returns
 unfolding place placeOf
-returns c = rw (lt-ltb _ _ (c .before .if1 .taken), le-leb _ _ (c .if2 .taken))
+returns c = rw (lt-ltb _ _ (c .before .before .before .if1 .taken), le-leb _ _ (c .if2 .taken))
 
 returns-2 : tie.Need-returns-2
 unfolding place placeOf
-returns-2 c = rw (lt-ltb _ _ (c .before .if1 .taken), lt-leb _ _ (c .if2 .left))
+returns-2 c = rw (lt-ltb _ _ (c .before .before .before .if1 .taken), lt-leb _ _ (c .if2 .left))
 
 contains-requires : tie.Need-contains-requires
 contains-requires c κs = search needs

@@ -17,9 +17,12 @@ mul-result-2 c = search needs
 mul-result-3 : tie.Need-mul-result-3
 mul-result-3 c = search needs
 
+mul-result-4 : tie.Need-mul-result-4
+mul-result-4 c = search needs
+
 returns : tie.Need-returns
 unfolding lengthsFit
 returns c = refl
 
 pub lengths-fit-spec : {M : Type 1} → statement M
-lengths-fit-spec = tie.close (tie.spec mul-places mul-result mul-result-2 mul-result-3 returns)
+lengths-fit-spec = tie.close (tie.spec mul-places mul-result mul-result-2 mul-result-3 mul-result-4 returns)

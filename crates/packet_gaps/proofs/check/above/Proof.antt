@@ -17,7 +17,7 @@ returns c = cc
 
 returns-2 : tie.Need-returns-2
 unfolding atOrBelow
-returns-2 c = cc (not-at-or-below (c .before .low .given .0 .0) (c .before .before .before .args .x))
+returns-2 c = cc (not-at-or-below (c .before .before .low .given .0 .0) (c .before .before .before .before .args .x .0))
 
 pub above-spec : {M : Type 1} → statement M
 above-spec = tie.close (tie.spec enum-told enum-known-low returns returns-2)

@@ -7,12 +7,12 @@ use Rattle.model.specs.Rules.{nacked}
 use Rattle.packet_gaps.proofs.nacks.nack.Statement.{statement}
 use Rattle.packet_gaps.proofs.nacks.nack.Tie as tie
 
-add-t3 : tie.Need-add-t3
-add-t3 c = omega (arith, leb-false (2 ^ 32 - 1) (c .before .args .g .nacks) (c .before .pre))
+add-t4 : tie.Need-add-t4
+add-t4 c = omega (arith, leb-false (2 ^ 32 - 1) (c .before .before .args .g .nacks) (c .before .before .pre))
 
 returns : tie.Need-returns
 unfolding nacked
 returns c = rw add-one
 
 pub nack-spec : {M : Type 1} → statement M
-nack-spec = tie.close (tie.spec add-t3 returns)
+nack-spec = tie.close (tie.spec add-t4 returns)

@@ -26,7 +26,7 @@ add-t20 c = let s = c .before .before .before .before .before .before .before .b
 sub-t21 : tie.Need-sub-t21
 sub-t21 c = let s = c .before .before .before .before .before .before .before .before .before .before .before .before .before .before .before .before .before .before in
     let r = ready-repair (s .args .instant) (s .args .e) _ (stored (s .args .s) (s .args .entries .now) (s .args .payloads .now) (s .args .gaps .now) (s .args .remembered .now)) (s .pre) in
-    omega (arith, length-filled (s .args .gaps .now) (s .args .s .gaps) (s .args .e .number) (r .gaps-ascend) (open-gap (s .args .instant) (s .args .e) _ (stored (s .args .s) (s .args .entries .now) (s .args .payloads .now) (s .args .gaps .now) (s .args .remembered .now)) (s .pre)) .0)
+    omega (arith, length-filled (s .args .gaps .now) (s .args .s .gaps) (s .args .e .number .0) (r .gaps-ascend) (open-gap (s .args .instant) (s .args .e) _ (stored (s .args .s) (s .args .entries .now) (s .args .payloads .now) (s .args .gaps .now) (s .args .remembered .now)) (s .pre)) .0)
 
 same-length : tie.Need-same-length
 same-length c = search needs

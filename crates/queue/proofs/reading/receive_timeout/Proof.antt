@@ -30,7 +30,7 @@ returns-2 : tie.Need-returns-2
 returns-2 c = let s = c .before .before .before .before .before .before in let a = s .args in let q = a .q in let e : q .config .settings .mode ≡ Passthrough = c .enum-told .given .1 in λ bytes. waiting-timeout (q .config .settings .mode) (q .config .settings) (q .last) (a .entries .now) bytes (a .n) (a .now) (c .before .before .before .before .if1 .left) e
 
 returns-3 : tie.Need-returns-3
-returns-3 c = let s = c .before .before .before .before .before .before .before .before in let a = s .args in let q = a .q in let e : q .config .settings .mode ≡ SortedQueue = c .before .before .enum-told2 .given .1 in λ bytes. front-timeout (q .config .settings .mode) (q .config .settings) (q .last) (a .entries .now) bytes (a .n) (a .now) (c .before .before .before .before .before .before .if1 .left) e (c .before .read .result .timestamp) _ (λ p. ap (λ (x : Entry). x .timestamp) (c .before .read .ensures p)) (c .until-front .ensures)
+returns-3 c = let s = c .before .before .before .before .before .before .before .before in let a = s .args in let q = a .q in let e : q .config .settings .mode ≡ SortedQueue = c .before .before .enum-told2 .given .1 in λ bytes. front-timeout (q .config .settings .mode) (q .config .settings) (q .last) (a .entries .now) bytes (a .n) (a .now) (c .before .before .before .before .before .before .if1 .left) e (c .before .read .result .timestamp .0) _ (λ p. ap (λ (x : Entry). x .timestamp) (c .before .read .ensures p)) (c .until-front .ensures)
 
 pub receive-timeout-spec : {M : Type 1} → statement M
 receive-timeout-spec =

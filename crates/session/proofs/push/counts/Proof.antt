@@ -9,13 +9,13 @@ returns : tie.Need-returns
 returns c = count-here _ _ (c .if1 .taken)
 
 returns-2 : tie.Need-returns-2
-returns-2 c = count-here _ _ (c .if2 .taken) ∙ count-past _ _ (c .before .if1 .left)
+returns-2 c = count-here _ _ (c .if2 .taken) ∙ count-past _ _ (c .before .before .if1 .left)
 
 raised-requires : tie.Need-raised-requires
 raised-requires c κs = search needs
 
 returns-3 : tie.Need-returns-3
-returns-3 c = c .raised .ensures ∙ count-past _ _ (c .before .if2 .left) ∙ count-past _ _ (c .before .before .if1 .left)
+returns-3 c = c .raised .ensures ∙ count-past _ _ (c .before .if2 .left) ∙ count-past _ _ (c .before .before .before .if1 .left)
 
 pub counts-spec : {M : Type 1} → statement M
 counts-spec = tie.close (tie.spec returns returns-2 raised-requires returns-3)
