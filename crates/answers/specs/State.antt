@@ -72,7 +72,7 @@ stateLine s =
 -- `entry EXTENDED TIMESTAMP ARRIVAL MARKER HEX`
 unfoldable pub entryLine : Entry → List ℕ → List (List ℕ)
 entryLine e place =
-    ascii "entry" ∷ (field (decimal (e .number)) ∷ (field (decimal (e .timestamp)) ∷ (field (optDecimal (e .arrival)) ∷ (field (flagText (e .marker))
+    ascii "entry" ∷ (field (decimal (e .number .0)) ∷ (field (decimal (e .timestamp .0)) ∷ (field (optDecimal (e .arrival)) ∷ (field (flagText (e .marker))
     ∷ (field (hex (take (e .size) place)) ∷ (lineFeed ∷ []))))))
 
 -- NACKED: "`-` with COUNT 0 where it was never NACKed"
@@ -83,7 +83,7 @@ nackedOf g = cond (eqb (g .nacks) 0) Opt.None (Opt.Some (g .«nacked_at»))
 unfoldable pub gapLine : Gap → List (List ℕ)
 unfolding nackedOf
 gapLine g =
-    ascii "gap" ∷ (field (decimal (g .number)) ∷ (field (decimal (g .detected)) ∷ (field (optDecimal (nackedOf g)) ∷ (field (decimal (g .nacks)) ∷ (lineFeed ∷ [])))))
+    ascii "gap" ∷ (field (decimal (g .number .0)) ∷ (field (decimal (g .detected)) ∷ (field (optDecimal (nackedOf g)) ∷ (field (decimal (g .nacks)) ∷ (lineFeed ∷ [])))))
 
 -- `remembered EXTENDED NACKED`
 unfoldable pub rememberedLine : ℕ → ℕ → List (List ℕ)

@@ -129,8 +129,8 @@ pub fn entry(out: &mut [u8], at: usize, e: Entry, place: &[u8]) -> usize
 {
     let arrival = e.arrival;
     let a = put::text(out, at, b"entry");
-    let b = put::number(out, a, e.number);
-    let c = put::number(out, b, e.timestamp);
+    let b = put::number(out, a, e.number.0);
+    let c = put::number(out, b, e.timestamp.0);
     let d = put::opt(out, c, arrival);
     let f = super::flag(out, d, e.marker);
     let g = super::octets(out, f, place, e.size);
@@ -150,7 +150,7 @@ pub fn gap(out: &mut [u8], at: usize, g: Gap) -> usize
     ensures { λ r. ⌜ output (now (out .exit)) r ≡ putAll (gapLine g) (output (now (out .entry)) at) ⌝ }
 {
     let a = put::text(out, at, b"gap");
-    let b = put::number(out, a, g.number);
+    let b = put::number(out, a, g.number.0);
     let c = put::number(out, b, g.detected);
     let d = put::opt(out, c, nacked(g));
     let e = put::number(out, d, g.nacks);
