@@ -1,5 +1,4 @@
 -- Demand 3 for code: calls made one after the other, of which each meets its contract, `Opens` or `Does`.
-use mathlib.Core.Path.{_≡_}
 use mathlib.Core.List.{List, [], _∷_, _++_}
 use Prim.Native.Nat.{ℕ}
 use Rattle.model.specs.declared.Config.{Config}

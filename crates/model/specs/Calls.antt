@@ -1,8 +1,7 @@
--- The calls, what each answers and what it leaves: the opening and the eight of 01.
-use mathlib.Core.Bool.{Bool, true, false, cond}
-use mathlib.Core.List.{List, [], _∷_, map}
-use Prim.Native.Nat.{ℕ, _+_, _%_, _^_}
-use lib.Dec.{eqb}
+-- The eight calls of 01, what each answers and what it leaves. The opening is in Did.
+use mathlib.Core.Bool.{Bool, cond}
+use mathlib.Core.List.{List, [], _∷_}
+use Prim.Native.Nat.{ℕ, _%_, _^_}
 use lib.ListN.{length}
 use Rattle.words.specs.Words.{over}
 use Rattle.rtp.specs.declared.opt.Opt.{Opt}
@@ -10,7 +9,6 @@ use Rattle.stats.specs.declared.OptRtxStats.{OptRtxStats}
 use Rattle.config.specs.declared.RtpInboundQueueMode.{RtpInboundQueueMode}
 use Rattle.config.specs.declared.RtpInboundQueueMode.the-variants.{Passthrough, SortedQueue}
 use Rattle.config.specs.declared.Settings.{Settings}
-use Rattle.config.specs.declared.Senders.{Senders}
 use Rattle.config.specs.Timings.{targetDelay}
 use Rattle.model.specs.declared.Queue.{Queue}
 use Rattle.model.specs.Records.{Entry, State, highestOf}

@@ -1,6 +1,6 @@
 -- What a call on stored bytes does, refused or not: the definition that every public contract equates its answer, session and lent bytes with.
 use mathlib.Core.Bool.{cond}
-use mathlib.Core.List.{List, []}
+use mathlib.Core.List.{List}
 use Prim.Native.Nat.{ℕ}
 use lib.Dec.{eqb}
 use Rattle.model.specs.declared.Config.{Config}

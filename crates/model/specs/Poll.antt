@@ -23,7 +23,7 @@ use Rattle.model.specs.declared.LastReceived.the-variants as LastReceive
 use Rattle.model.specs.declared.Counters.{Counters}
 use Rattle.model.specs.declared.Queue.{Queue}
 use Rattle.model.specs.Lists.{keep, leading, trailing}
-use Rattle.model.specs.Records.{Entry, Gap, State, gapNumbers, highestOf, withClock, withReturned, withCounters, withLoss}
+use Rattle.model.specs.Records.{Entry, Gap, State, withClock, withReturned, withCounters, withLoss}
 use Rattle.model.specs.Rules.{gapsBelow, gapsFrom, dueAt, due, estimateIn, nackDue, tried, rememberedAfter}
 
 unfoldable pub countLost : ℕ → Counters → Counters

@@ -1,5 +1,5 @@
 -- 000's `push` and `push_rtx`: what a media packet and a repair make of a session. The bytes are a datagram that was not refused.
-use mathlib.Core.Bool.{Bool, true, false, cond}
+use mathlib.Core.Bool.{Bool, false, cond}
 use mathlib.Core.List.{List, [], _∷_}
 use Prim.Native.Nat.{ℕ, _+_}
 use lib.Dec.{leb, ltb}
@@ -21,7 +21,7 @@ use Rattle.model.specs.declared.LastReceived.the-variants as LastReceive
 use Rattle.model.specs.declared.Counters.{Counters}
 use Rattle.model.specs.declared.Queue.{Queue}
 use Rattle.model.specs.Lists.{keep, some?}
-use Rattle.model.specs.Records.{Entry, Gap, Remembered, State, highestOf, lastTimestampOf, returnedOf, withClock, withLast, withReturned, withRtx, withCounters, withJitter, withLoss}
+use Rattle.model.specs.Records.{Entry, State, highestOf, lastTimestampOf, returnedOf, withClock, withLast, withReturned, withRtx, withCounters, withJitter, withLoss}
 use Rattle.model.specs.Rules.{extended, is, gapOf, without, gapsFrom, Place, first, near, far, fills, other, placeOf, waits, gapsAfter, rttAfterRepair, isOf, rttAfterLate, forgetFirst}
 
 -- ---- what both share

@@ -1,4 +1,4 @@
--- The storage that the caller lends: which record stands in which place (docs/DESIGN.md, "Storage"). Nothing outside this file knows a stride.
+-- The storage that the caller lends: which record stands in which place (docs/DESIGN.md, "Storage").
 -- Records stand in the order of their list from place 0 on; how many, the session says; unused places hold zeros.
 use mathlib.Core.Bool.{Bool, true, false, _&&_}
 use mathlib.Core.List.{List, [], _∷_, map, zipWith}

@@ -1,7 +1,7 @@
 -- 01, "Where a call is turned back": the number of the first check that catches a call, or 0. "Checks run downwards within a call."
 use mathlib.Core.Bool.{Bool, true, false, cond, _&&_, _||_, not}
 use mathlib.Core.List.{List, [], _∷_, _++_}
-use Prim.Native.Nat.{ℕ, suc, _+_, _-_, _*_, _^_}
+use Prim.Native.Nat.{ℕ, _+_, _-_, _^_}
 use lib.Dec.{leb, ltb}
 use lib.ListN.{length}
 use Rattle.rtp.specs.declared.opt.Opt.{Opt}

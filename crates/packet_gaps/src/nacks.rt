@@ -1,5 +1,5 @@
 // 001's NACKs: which gaps are due, when the next one is, and which were tried in vain. What is due is said by the timings, which the
-// settings and the round trip give (`Rattle.packet_gaps.proofs.Timings`).
+// settings and the round trip give (`Rattle.packet_gaps.proofs.Model`).
 ghost use mathlib.Core.Path.{_≡_};
 ghost use mathlib.Core.Bool.{true, false};
 ghost use mathlib.Core.List.{map};

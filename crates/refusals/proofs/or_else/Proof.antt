@@ -1,6 +1,4 @@
 -- `refusals::or_else` meets its contract: the code's test is the definition's.
-use borrow.Author.Tests.{eq-eqb, ne-eqb}
-use Rattle.refusals.specs.Refusals.{orElse}
 use Rattle.refusals.proofs.Laws.{orElse-second, orElse-first}
 use Rattle.refusals.proofs.or_else.Statement.{statement}
 use Rattle.refusals.proofs.or_else.Tie as tie

@@ -1,10 +1,9 @@
 -- `opt_min` meets its contract: each arm of the match is a line of the definition.
-use mathlib.Core.Path.{_≡_, ap, _∙_}
-use Prim.Native.Nat.{ℕ, min, _≤_, _<_}
+use mathlib.Core.Path.{_≡_}
+use Prim.Native.Nat.{min}
 use native.Mathlib.Omega.{arith}
 use borrow.Author.Needs.{needs}
 use Rattle.rtp.specs.declared.opt.Opt.{Opt}
-use Rattle.rtp.specs.declared.opt.Opt.the-variants.{None, Some}
 use Rattle.rtp.specs.Opt.{optMin}
 use Rattle.rtp.proofs.opt.opt_min.Statement.{statement}
 use Rattle.rtp.proofs.opt.opt_min.Tie as tie
