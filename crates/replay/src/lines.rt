@@ -1,7 +1,7 @@
 // Standard input, line by line. A line is gathered in a lent buffer one byte longer than the longest: what fills it is too long.
-use crate::calls;
-use crate::calls::Held;
-use crate::calls::Step;
+use crate::held;
+use crate::held::Held;
+use crate::held::Step;
 use crate::output;
 use libc::STDIN_FILENO;
 
@@ -37,7 +37,7 @@ fn answer(
     let at = output::room(out, filled);
     let mut bytes = [0u8; 2048];
     let call = trace::read(&line[0..n], &mut bytes);
-    calls::answer(
+    held::answer(
         held,
         entries,
         payloads,
