@@ -1,7 +1,7 @@
 // Standard input, line by line. A line is gathered in a lent buffer one byte longer than the longest: what fills it is too long.
-use crate::calls;
-use crate::calls::Held;
-use crate::calls::Step;
+use crate::held;
+use crate::held::Held;
+use crate::held::Step;
 use crate::output;
 use libc::STDIN_FILENO;
 
@@ -37,7 +37,7 @@ fn answer(
     let at = output::room(out, filled);
     let mut bytes = [0u8; 2048];
     let call = trace::read(&line[0..n], &mut bytes);
-    calls::answer(
+    held::answer(
         held,
         entries,
         payloads,
@@ -88,13 +88,22 @@ fn feed(
     Fed { held, n, at }
 }
 
+// At least one byte.
+fn some(got: isize) -> isize {
+    if got < 1 {
+        return 1;
+    }
+    got
+}
+
 struct Turn {
     held: Held,
     n: usize,
     more: bool,
 }
 
-// One block of input; its answers are written, so that a caller at the other end of a pipe can wait for them.
+// One block of input; its answers are written, so that a caller at the other end of a pipe can wait for them. The end of input, where
+// nothing is read, is taken for the line feed that stands there before: a last line that has none is a line all the same.
 fn next(
     held: Held,
     entries: &mut [u64],
@@ -106,15 +115,9 @@ fn next(
     out: &mut [u8],
 ) -> Turn {
     let mut block = io::large_buffer();
+    block[0] = b'\n';
     let got = libc::read(STDIN_FILENO, &mut block);
-    let count = io::count(got, &block);
-    if count == 0 {
-        return Turn {
-            held,
-            n,
-            more: false,
-        };
-    }
+    let size = io::count(some(got), &block);
     let fed = feed(
         held,
         entries,
@@ -123,7 +126,7 @@ fn next(
         remembered,
         line,
         n,
-        &block[..count],
+        &block[..size],
         out,
     );
     let after = fed.held;
@@ -131,39 +134,11 @@ fn next(
     Turn {
         held: after,
         n: fed.n,
-        more: true,
+        more: 0 < got,
     }
 }
 
-// Every block of input: the session after them, and how many bytes stand there of a last line with no line feed.
-fn blocks(
-    entries: &mut [u64],
-    payloads: &mut [u8],
-    gaps: &mut [u64],
-    remembered: &mut [u64],
-    line: &mut [u8],
-    out: &mut [u8],
-) -> Turn {
-    let mut held = Held::None;
-    let mut n = 0;
-    let mut turns = u64::MAX;
-    while 0 < turns {
-        let t = next(held, entries, payloads, gaps, remembered, line, n, out);
-        if !t.more {
-            return t;
-        }
-        let after = t.held;
-        held = after;
-        n = t.n;
-        turns -= 1;
-    }
-    Turn {
-        held,
-        n,
-        more: true,
-    }
-}
-
+// Every block of input.
 pub fn run(
     entries: &mut [u64],
     payloads: &mut [u8],
@@ -172,18 +147,17 @@ pub fn run(
     line: &mut [u8],
     out: &mut [u8],
 ) {
-    let last = blocks(entries, payloads, gaps, remembered, line, out);
-    let held = last.held;
-    let step = answer(
-        held,
-        entries,
-        payloads,
-        gaps,
-        remembered,
-        line,
-        last.n,
-        out,
-        0,
-    );
-    output::write(out, step.at);
+    let mut held = Held::None;
+    let mut n = 0;
+    let mut turns = u64::MAX;
+    while 0 < turns {
+        let t = next(held, entries, payloads, gaps, remembered, line, n, out);
+        if !t.more {
+            return;
+        }
+        let after = t.held;
+        held = after;
+        n = t.n;
+        turns -= 1;
+    }
 }

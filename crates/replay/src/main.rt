@@ -2,7 +2,7 @@
 //
 // Memory is bounded: one block of input, one line, one block of answers, and storage for the largest session, of which each session is
 // lent the part that its D and G ask for.
-mod calls;
+mod held;
 mod lines;
 mod lists;
 mod opening;

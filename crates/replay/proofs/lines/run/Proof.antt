@@ -1,9 +1,9 @@
--- `blocks` is safe and ends: the turns are counted down, and every lent slice keeps its length.
+-- `run` is safe and ends: the turns are counted down, and every lent slice keeps its length.
 use mathlib.Core.Path.{_≡_}
 use borrow.Author.Needs.{needs}
 use lib.ListN.{length}
-use Rattle.replay.proofs.lines.blocks.Statement.{statement}
-use Rattle.replay.proofs.lines.blocks.Tie as tie
+use Rattle.replay.proofs.lines.run.Statement.{statement}
+use Rattle.replay.proofs.lines.run.Tie as tie
 
 abbrev Inv-loop : tie.InvT-loop
 Inv-loop entries₀ payloads₀ gaps₀ remembered₀ line₀ out₀ held₀ n₀ turns₀ entries payloads gaps remembered line out held n turns =
@@ -70,8 +70,8 @@ same-length-12 c = search needs
 returns-2 : tie.Need-returns-2 Inv-loop μ-loop
 returns-2 c = search needs
 
-pub blocks-spec : {M : Type 1} → statement M
-blocks-spec =
+pub run-spec : {M : Type 1} → statement M
+run-spec =
     tie.close
     (tie.spec
     Inv-loop

@@ -1,12 +1,13 @@
-// A line's call, made on the session.
+// A line's call, made on the session that is held.
 ghost use Prim.Native.Nat.{_≤_};
 use crate::lists;
 use crate::opening;
 use crate::opening::OptConfig;
+use calls::Made;
+use calls::reading;
 use model::Session;
 use queue::Opening;
 use trace::Call;
-use trace::Datagram;
 use trace::OpenFields;
 
 pub enum Held {
@@ -73,73 +74,6 @@ fn open(
     }
 }
 
-fn media(
-    s: Session,
-    entries: &mut [u64],
-    payloads: &mut [u8],
-    gaps: &mut [u64],
-    remembered: &mut [u64],
-    d: Datagram,
-    bytes: &[u8],
-    out: &mut [u8],
-    at: usize,
-) -> Step {
-    let size = lent(d.size, 1, bytes.len());
-    let datagram = &bytes[0..size];
-    let done = push::push(s, entries, payloads, gaps, remembered, d.now, datagram);
-    let answer = done.answer;
-    let session = done.session;
-    let to = answers::media(out, at, answer);
-    Step {
-        held: Held::Some(session),
-        at: to,
-    }
-}
-
-fn repair(
-    s: Session,
-    entries: &mut [u64],
-    payloads: &mut [u8],
-    gaps: &mut [u64],
-    remembered: &mut [u64],
-    d: Datagram,
-    bytes: &[u8],
-    out: &mut [u8],
-    at: usize,
-) -> Step {
-    let size = lent(d.size, 1, bytes.len());
-    let datagram = &bytes[0..size];
-    let done = push::rtx::push_rtx(s, entries, payloads, gaps, remembered, d.now, datagram);
-    let answer = done.answer;
-    let session = done.session;
-    let to = answers::repair(out, at, answer);
-    Step {
-        held: Held::Some(session),
-        at: to,
-    }
-}
-
-fn poll(
-    s: Session,
-    entries: &mut [u64],
-    payloads: &mut [u8],
-    gaps: &mut [u64],
-    remembered: &mut [u64],
-    now: u64,
-    out: &mut [u8],
-    at: usize,
-) -> Step {
-    let mut payload = [0u8; 320];
-    let done = poll::poll(s, entries, payloads, gaps, remembered, now, &mut payload);
-    let answer = done.answer;
-    let session = done.session;
-    let to = answers::poll(out, at, answer, &payload);
-    Step {
-        held: Held::Some(session),
-        at: to,
-    }
-}
-
 fn poll_nack(
     s: Session,
     entries: &mut [u64],
@@ -149,16 +83,13 @@ fn poll_nack(
     now: u64,
     out: &mut [u8],
     at: usize,
-) -> Step {
+) -> Made {
     let mut numbers = [0u16; 4096];
     let done = poll::nack::poll_nack(s, entries, payloads, gaps, remembered, now, &mut numbers);
     let answer = done.answer;
     let session = done.session;
     let to = lists::poll_nack(out, at, answer, &numbers);
-    Step {
-        held: Held::Some(session),
-        at: to,
-    }
+    Made { session, at: to }
 }
 
 // The calls that leave the session as it is, whose answer is how many bytes of the output are filled.
@@ -174,27 +105,13 @@ fn read(
 ) -> usize {
     match call {
         Call::TimeoutReceive(now) => {
-            let a = queue::reading::timeout_receive(s, entries, payloads, gaps, remembered, now);
-            answers::timeout(out, at, a)
+            reading::timeout_receive(s, entries, payloads, gaps, remembered, now, out, at)
         }
         Call::TimeoutNack(now) => {
-            let a = queue::reading::timeout_nack(s, entries, payloads, gaps, remembered, now);
-            answers::timeout(out, at, a)
+            reading::timeout_nack(s, entries, payloads, gaps, remembered, now, out, at)
         }
-        Call::RtxStats => {
-            let a = queue::reading::rtx_stats(s, entries, payloads, gaps, remembered);
-            answers::rtx_stats(out, at, a)
-        }
-        Call::Highest => {
-            let a = queue::reading::highest_sequence_number_received(
-                s,
-                entries,
-                payloads,
-                gaps,
-                remembered,
-            );
-            answers::highest(out, at, a)
-        }
+        Call::RtxStats => reading::rtx_stats(s, entries, payloads, gaps, remembered, out, at),
+        Call::Highest => reading::highest(s, entries, payloads, gaps, remembered, out, at),
         _ => lists::state(out, at, s, entries, payloads, gaps, remembered),
     }
 }
@@ -209,14 +126,42 @@ fn in_session(
     bytes: &[u8],
     out: &mut [u8],
     at: usize,
-) -> Step {
+) -> Made {
     match call {
-        Call::Media(d) => media(s, entries, payloads, gaps, remembered, d, bytes, out, at),
-        Call::Repair(d) => repair(s, entries, payloads, gaps, remembered, d, bytes, out, at),
-        Call::Poll(now) => poll(s, entries, payloads, gaps, remembered, now, out, at),
+        Call::Media(d) => {
+            let size = lent(d.size, 1, bytes.len());
+            let datagram = &bytes[0..size];
+            calls::media(
+                s,
+                entries,
+                payloads,
+                gaps,
+                remembered,
+                d.now,
+                datagram,
+                out,
+                at,
+            )
+        }
+        Call::Repair(d) => {
+            let size = lent(d.size, 1, bytes.len());
+            let datagram = &bytes[0..size];
+            calls::repair(
+                s,
+                entries,
+                payloads,
+                gaps,
+                remembered,
+                d.now,
+                datagram,
+                out,
+                at,
+            )
+        }
+        Call::Poll(now) => calls::poll(s, entries, payloads, gaps, remembered, now, out, at),
         Call::PollNack(now) => poll_nack(s, entries, payloads, gaps, remembered, now, out, at),
-        _ => Step {
-            held: Held::Some(s),
+        _ => Made {
+            session: s,
             at: read(s, entries, payloads, gaps, remembered, call, out, at),
         },
     }
@@ -244,7 +189,7 @@ fn on_held(
     let words = lent(settings.max_entries, 8, entries.len());
     let octets = lent(settings.max_entries, 640, payloads.len());
     let places = lent(settings.max_gaps, 4, gaps.len());
-    in_session(
+    let made = in_session(
         s,
         &mut entries[0..words],
         &mut payloads[0..octets],
@@ -254,7 +199,12 @@ fn on_held(
         bytes,
         out,
         at,
-    )
+    );
+    let after = made.session;
+    Step {
+        held: Held::Some(after),
+        at: made.at,
+    }
 }
 
 pub fn answer(

@@ -3,8 +3,8 @@ use Prim.Native.Nat.{ℕ, _*_, _/_, _≤_, _<_}
 use native.Mathlib.Nat.{le-div-iff-mul-le}
 use native.Mathlib.Omega.{arith}
 use borrow.Author.Needs.{needs}
-use Rattle.replay.proofs.calls.lent.Statement.{statement}
-use Rattle.replay.proofs.calls.lent.Tie as tie
+use Rattle.replay.proofs.held.lent.Statement.{statement}
+use Rattle.replay.proofs.held.lent.Tie as tie
 
 within : (n each have : ℕ) → 0 < each → n ≤ have / each → n * each ≤ have
 within n each have p h = le-div-iff-mul-le p .0 h
