@@ -177,6 +177,22 @@ fn in_session(
     }
 }
 
+// The D and G of a session.
+struct Limits {
+    max_entries: usize,
+    max_gaps: usize,
+}
+
+fn bounds(s: Session) -> Limits {
+    let q = s.queue;
+    let config = q.config;
+    let settings = config.settings;
+    Limits {
+        max_entries: settings.max_entries,
+        max_gaps: settings.max_gaps,
+    }
+}
+
 // A call on the session that is held, which is lent what its D and G ask for.
 fn on_held(
     held: Held,
@@ -193,12 +209,10 @@ fn on_held(
         let to = answers::line(out, at, b"no session");
         return Step { held, at: to };
     };
-    let q = s.queue;
-    let config = q.config;
-    let settings = config.settings;
-    let words = lent(settings.max_entries, 8, entries.len());
-    let octets = lent(settings.max_entries, 640, payloads.len());
-    let places = lent(settings.max_gaps, 4, gaps.len());
+    let most = bounds(s);
+    let words = lent(most.max_entries, 8, entries.len());
+    let octets = lent(most.max_entries, 640, payloads.len());
+    let places = lent(most.max_gaps, 4, gaps.len());
     let size = lent(datagram_size(call), 1, bytes.len());
     let made = in_session(
         s,
