@@ -10,6 +10,15 @@ use queue::Opening;
 use trace::Call;
 use trace::OpenFields;
 
+// Storage for the largest session.
+pub type Entries = [u64; 8192];
+
+pub type Payloads = [u8; 655360];
+
+pub type Gaps = [u64; 16384];
+
+pub type Remembered = [u64; 2048];
+
 pub enum Held {
     None,
     Some(Session),
@@ -116,6 +125,15 @@ fn read(
     }
 }
 
+// How many bytes the call's datagram has.
+fn datagram_size(call: Call) -> usize {
+    match call {
+        Call::Media(d) => d.size,
+        Call::Repair(d) => d.size,
+        _ => 0,
+    }
+}
+
 fn in_session(
     s: Session,
     entries: &mut [u64],
@@ -123,47 +141,55 @@ fn in_session(
     gaps: &mut [u64],
     remembered: &mut [u64],
     call: Call,
-    bytes: &[u8],
+    datagram: &[u8],
     out: &mut [u8],
     at: usize,
 ) -> Made {
     match call {
-        Call::Media(d) => {
-            let size = lent(d.size, 1, bytes.len());
-            let datagram = &bytes[0..size];
-            calls::media(
-                s,
-                entries,
-                payloads,
-                gaps,
-                remembered,
-                d.now,
-                datagram,
-                out,
-                at,
-            )
-        }
-        Call::Repair(d) => {
-            let size = lent(d.size, 1, bytes.len());
-            let datagram = &bytes[0..size];
-            calls::repair(
-                s,
-                entries,
-                payloads,
-                gaps,
-                remembered,
-                d.now,
-                datagram,
-                out,
-                at,
-            )
-        }
+        Call::Media(d) => calls::media(
+            s,
+            entries,
+            payloads,
+            gaps,
+            remembered,
+            d.now,
+            datagram,
+            out,
+            at,
+        ),
+        Call::Repair(d) => calls::repair(
+            s,
+            entries,
+            payloads,
+            gaps,
+            remembered,
+            d.now,
+            datagram,
+            out,
+            at,
+        ),
         Call::Poll(now) => calls::poll(s, entries, payloads, gaps, remembered, now, out, at),
         Call::PollNack(now) => poll_nack(s, entries, payloads, gaps, remembered, now, out, at),
         _ => Made {
             session: s,
             at: read(s, entries, payloads, gaps, remembered, call, out, at),
         },
+    }
+}
+
+// The D and G of a session.
+struct Limits {
+    max_entries: usize,
+    max_gaps: usize,
+}
+
+fn bounds(s: Session) -> Limits {
+    let q = s.queue;
+    let config = q.config;
+    let settings = config.settings;
+    Limits {
+        max_entries: settings.max_entries,
+        max_gaps: settings.max_gaps,
     }
 }
 
@@ -183,12 +209,11 @@ fn on_held(
         let to = answers::line(out, at, b"no session");
         return Step { held, at: to };
     };
-    let q = s.queue;
-    let config = q.config;
-    let settings = config.settings;
-    let words = lent(settings.max_entries, 8, entries.len());
-    let octets = lent(settings.max_entries, 640, payloads.len());
-    let places = lent(settings.max_gaps, 4, gaps.len());
+    let most = bounds(s);
+    let words = lent(most.max_entries, 8, entries.len());
+    let octets = lent(most.max_entries, 640, payloads.len());
+    let places = lent(most.max_gaps, 4, gaps.len());
+    let size = lent(datagram_size(call), 1, bytes.len());
     let made = in_session(
         s,
         &mut entries[0..words],
@@ -196,7 +221,7 @@ fn on_held(
         &mut gaps[0..places],
         remembered,
         call,
-        bytes,
+        &bytes[0..size],
         out,
         at,
     );

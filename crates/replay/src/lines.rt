@@ -1,9 +1,16 @@
 // Standard input, line by line. A line is gathered in a lent buffer one byte longer than the longest: what fills it is too long.
 use crate::held;
+use crate::held::Entries;
+use crate::held::Gaps;
 use crate::held::Held;
+use crate::held::Payloads;
+use crate::held::Remembered;
 use crate::held::Step;
 use crate::output;
+use crate::output::Answers;
 use libc::STDIN_FILENO;
+
+type Line = [u8; 4096];
 
 // Puts a part of a line behind its first n bytes, as far as the buffer goes. How many stand there then.
 fn gather(line: &mut [u8], n: usize, part: &[u8]) -> usize {
@@ -22,13 +29,13 @@ fn gather(line: &mut [u8], n: usize, part: &[u8]) -> usize {
 // A whole line of n bytes.
 fn answer(
     held: Held,
-    entries: &mut [u64],
-    payloads: &mut [u8],
-    gaps: &mut [u64],
-    remembered: &mut [u64],
+    entries: &mut Entries,
+    payloads: &mut Payloads,
+    gaps: &mut Gaps,
+    remembered: &mut Remembered,
     line: &[u8],
     n: usize,
-    out: &mut [u8],
+    out: &mut Answers,
     filled: usize,
 ) -> Step {
     if line.len() < n {
@@ -59,14 +66,14 @@ struct Fed {
 
 fn feed(
     before: Held,
-    entries: &mut [u64],
-    payloads: &mut [u8],
-    gaps: &mut [u64],
-    remembered: &mut [u64],
-    line: &mut [u8],
+    entries: &mut Entries,
+    payloads: &mut Payloads,
+    gaps: &mut Gaps,
+    remembered: &mut Remembered,
+    line: &mut Line,
     had: usize,
     block: &[u8],
-    out: &mut [u8],
+    out: &mut Answers,
 ) -> Fed {
     let mut held = before;
     let mut n = had;
@@ -106,13 +113,13 @@ struct Turn {
 // nothing is read, is taken for the line feed that stands there before: a last line that has none is a line all the same.
 fn next(
     held: Held,
-    entries: &mut [u64],
-    payloads: &mut [u8],
-    gaps: &mut [u64],
-    remembered: &mut [u64],
-    line: &mut [u8],
+    entries: &mut Entries,
+    payloads: &mut Payloads,
+    gaps: &mut Gaps,
+    remembered: &mut Remembered,
+    line: &mut Line,
     n: usize,
-    out: &mut [u8],
+    out: &mut Answers,
 ) -> Turn {
     let mut block = io::large_buffer();
     block[0] = b'\n';
@@ -140,12 +147,12 @@ fn next(
 
 // Every block of input.
 pub fn run(
-    entries: &mut [u64],
-    payloads: &mut [u8],
-    gaps: &mut [u64],
-    remembered: &mut [u64],
-    line: &mut [u8],
-    out: &mut [u8],
+    entries: &mut Entries,
+    payloads: &mut Payloads,
+    gaps: &mut Gaps,
+    remembered: &mut Remembered,
+    line: &mut Line,
+    out: &mut Answers,
 ) {
     let mut held = Held::None;
     let mut n = 0;

@@ -1,6 +1,9 @@
 // Answers are gathered in a lent buffer, of which `at` bytes are filled, and written in blocks.
 use libc::STDOUT_FILENO;
 
+// A block of answers.
+pub type Answers = [u8; 65536];
+
 // More than any line of an answer has, that of a `nack` aside, whose numbers each make sure of their own room.
 const ROOM: usize = 1024;
 
