@@ -2,3 +2,4 @@
 pub mod Given
 pub mod Follows
 pub mod Jitter
+pub mod Runs

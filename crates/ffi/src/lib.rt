@@ -7,6 +7,7 @@ ghost use Rattle.model.specs.Contract.{storage};
 ghost use Rattle.ffi_words.specs.Told as Told;
 ghost use Rattle.ffi.specs.Exported as Exported;
 ghost use Rattle.ffi.specs.Exported.{Follows, Gives, alone, openedWords};
+ghost use Rattle.ffi.specs.Runs.{EveryRunInWords};
 use ffi_words::ConfigWords;
 use ffi_words::SessionWords;
 use ffi_words::answers;
@@ -295,4 +296,9 @@ pub extern "C" fn bizhgemu_lengths(max_entries: usize, max_gaps: usize) -> Lengt
 // What comes back from one call, the next one takes up.
 pub fn calls_follow()
     ensures { λ r. ⌜ Follows ⌝ }
+{}
+
+// Demand 3 of every program that links the library.
+pub fn every_run()
+    ensures { λ r. ⌜ EveryRunInWords ⌝ }
 {}
