@@ -158,7 +158,7 @@ module _ (now : ℕ) (s : State) (b : Book) (e : highestOf (s .queue .last) ≡ 
           (cond (out? l) (takeLowest (s .queue .config) (entryNumbers (x ∷ es)) (giveUp (s .queue .config) (beside s b))) (giveUp (s .queue .config) (beside s b)))
 
 same-nackAll : (now : ℕ) {c : Config} {s : State} {b : Book} → Same c s b → Same c (Q.nackAll now s) (B.nackAll c now b)
-unfolding Q.nackAll B.nackAll Q.estimateOf
+unfolding Q.nackAll B.nackAll
 same-nackAll now {c} {s} {b} same =
     by-same (λ (c : Config) (b : Book). Same c (Q.nackAll now s) (B.nackAll c now b)) same
     (record { config = refl; entries = refl; gaps = refl; highest = same .highest; estimate = refl; remembered = refl })

@@ -14,7 +14,7 @@ use Rattle.rtx_state.specs.declared.OptRtt.the-variants as OptRtt
 use Rattle.model.specs.declared.Config.{Config}
 use Rattle.model.specs.Lists.{following, keep, some?}
 use Rattle.model.specs.Records.{Gap, Remembered, gapNumbers}
-use Rattle.model.specs.Rules.{extended, is, gapOf, without, gapsBelow, gapsFrom, Place, first, near, far, fills, other, placeOf, waits, between, gapsAfter, estimateIn, nackDue, rttAfterRepair, isOf, rttAfterLate, forgetFirst, rememberedAfter}
+use Rattle.model.specs.Rules.{extended, is, gapOf, without, gapsBelow, gapsFrom, Place, first, near, far, fills, other, placeOf, waits, between, gapsAfter, timingsIn, nackDue, rttAfterRepair, isOf, rttAfterLate, forgetFirst, rememberedAfter}
 use Rattle.model.specs.Poll.{givenUp, notGivenUp, lostBelow, leftFrom}
 use Rattle.model.specs.Calls.{Call, media, repair, poll, pollNack, timeoutReceive, timeoutNack, rtxStats, highestReceived}
 use Rattle.book.specs.Sorted.{putIn}
@@ -179,7 +179,7 @@ onPoll c out b = cond out (takeLowest c (b .waiting) (giveUp c b)) (giveUp c b)
 
 unfoldable pub nackAll : Config → ℕ → Book → Book
 nackAll c now b =
-    record { span = b .span; waiting = b .waiting; missing = nackDue (c .settings) (estimateIn (c .senders .«has_rtx») (b .estimate)) now (b .missing); handed = b .handed; lost = b .lost; forgotten = b .forgotten; estimate = b .estimate; remembered = b .remembered }
+    record { span = b .span; waiting = b .waiting; missing = nackDue (timingsIn c (b .estimate)) now (b .missing); handed = b .handed; lost = b .lost; forgotten = b .forgotten; estimate = b .estimate; remembered = b .remembered }
 
 -- ---- any call
 

@@ -27,13 +27,12 @@ use Rattle.model.specs.declared.LastReturned.{LastReturned}
 use Rattle.model.specs.declared.Queue.{Queue}
 use Rattle.model.specs.Lists.{keep, leading, trailing, every?}
 use Rattle.model.specs.Records.{Gap, gapNumbers, returnedOf, highestOf}
-use Rattle.model.specs.Rules.{gapsBelow, gapsFrom, dueAt, due, nackDue, rttAfterRepair}
+use Rattle.model.specs.Rules.{gapsBelow, gapsFrom, rttAfterRepair}
 use Rattle.model.specs.Push.{passed, atOrBelow}
-use Rattle.model.specs.Poll.{nackTimeout}
 use Rattle.model.specs.Valid.{under, notPassed, gapSound}
 use Rattle.model.specs.Storage.{GAP-WORDS, gapWords, gapOfWords, gapsOf}
 use Rattle.model.proofs.Laid.{gaps-held, gap-coded}
-use Rattle.packet_gaps.specs.Gaps.{GapsIn, Small, onceOf, nackedOnce, sampledAt, dueAfter, dueBy, nackedBy, timeoutBy, instantsFit}
+use Rattle.packet_gaps.specs.Gaps.{GapsIn, Small, onceOf, nackedOnce, sampledAt, instantsFit}
 use Rattle.packet_gaps.specs.Sound.{passedOf, boundsOf, gapWithin}
 use Rattle.packet_gaps.proofs.Laws.{below-front}
 use Rattle.packet_gaps.proofs.Turns.{every-weaker}
@@ -74,20 +73,6 @@ sound-instants q gs c e = every-weaker (gapSound q) instantsFit one gs e
         rw (le-leb (g .detected) largest (omega arith), le-leb (g .nackedAt) largest (omega arith))
 
 -- ---- NACKs
-
-module _ (set : Settings) (rtt : OptRtt) (now : ℕ) where
-  pub due-keep : (gs : List Gap) → keep (due set rtt now) gs ≡ keep (dueBy (nackTimings set rtt) now) gs
-  unfolding due dueAt dueAfter nackTimings
-  due-keep gs = refl
-
-  pub due-nacked : (gs : List Gap) → nackDue set rtt now gs ≡ map (nackedBy (nackTimings set rtt) now) gs
-  unfolding nackDue nackedBy due dueAt dueAfter nackTimings
-  due-nacked gs = refl
-
-  pub timeout-is : (gs : List Gap) → nackTimeout set rtt now gs ≡ timeoutBy (nackTimings set rtt) now gs
-  unfolding nackTimeout timeoutBy dueAt dueAfter nackTimings
-  timeout-is [] = refl
-  timeout-is (g ∷ gs) = rw (timeout-is gs)
 
 -- valid settings and an estimate in range give small timings
 pub small-timings : (set : Settings) (rtt : OptRtt) → set .«initial_nack_delay» ≤ longest → set .«default_nack_resend_delay» ≤ longest → T (optRttInRange rtt) → Small (nackTimings set rtt)
