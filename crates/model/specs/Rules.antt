@@ -124,19 +124,33 @@ tried max g = leb max (g .nacks)
 
 -- ---- the round trip
 
--- "A gap NACKed just once yields a sample when its repair comes"
-unfoldable pub rttAfterRepair : ℕ → List Gap → OptRtt → OptRtt
-rttAfterRepair now [] rtt = rtt
-rttAfterRepair now (g ∷ gs) rtt = cond (eqb (g .nacks) 1) (sampledRtt rtt (now - g .nackedAt)) rtt
+-- NACKed just once
+abbrev pub once : Gap → Bool
+once g = eqb (g .nacks) 1
 
--- "also too late if the number is still remembered", which it then no longer is
+-- the instant of a gap's NACK, if there was just one
+unfoldable pub nackedOnce : Gap → Opt
+nackedOnce g = cond (once g) (Some (g .nackedAt)) None
+
+unfoldable pub onceOf : List Gap → Opt
+onceOf [] = None
+onceOf (g ∷ gs) = nackedOnce g
+
+-- the instant of the NACK of a number that is remembered
+unfoldable pub instantOf : List Remembered → Opt
+instantOf [] = None
+instantOf (r ∷ rs) = Some (r .nackedAt)
+
+-- "A gap NACKed just once yields a sample when its repair comes, also too late if the number is still remembered": the estimate after a
+-- repair of a number that was NACKed at this instant, if one is told
+unfoldable pub sampledAt : ℕ → Opt → OptRtt → OptRtt
+sampledAt now None rtt = rtt
+sampledAt now (Some instant) rtt = sampledRtt rtt (now - instant)
+
 unfoldable pub isOf : ℕ → Remembered → Bool
 isOf n r = eqb (r .number) n
 
-unfoldable pub rttAfterLate : ℕ → List Remembered → OptRtt → OptRtt
-rttAfterLate now [] rtt = rtt
-rttAfterLate now (r ∷ rs) rtt = sampledRtt rtt (now - r .nackedAt)
-
+-- a number that gave its sample is no longer remembered
 unfoldable pub forgetFirst : ℕ → List Remembered → List Remembered
 forgetFirst n [] = []
 forgetFirst n (r ∷ rs) = cond (isOf n r) rs (r ∷ forgetFirst n rs)
@@ -155,4 +169,4 @@ remember g = record { number = g .number; nackedAt = g .nackedAt }
 unfoldable pub rememberedAfter : Bool → List Gap → List Remembered → List Remembered
 unfolding latest
 rememberedAfter false lost l = l
-rememberedAfter true lost l = latest (l ++ map remember (keep (λ (g : Gap). eqb (g .nacks) 1) lost))
+rememberedAfter true lost l = latest (l ++ map remember (keep once lost))

@@ -1,10 +1,10 @@
 -- What the contracts of this crate say, in the terms of the queue's definitions; and how one call's result meets the next one's demand.
 use mathlib.Core.Path.{_≡_, refl, sym, ap, _∙_}
 use mathlib.Core.Bool.{Bool, true, false, cond, _&&_}
-use mathlib.Core.List.{List, [], _∷_, map}
+use mathlib.Core.List.{List, [], _∷_}
 use Prim.Native.Nat.{ℕ, zero, suc, _*_, _-_, _≤_}
 use native.Mathlib.Omega.{arith}
-use lib.Dec.{T, eqb, leb}
+use lib.Dec.{T, leb}
 use lib.ListN.{length, take, drop, length-map}
 use lib.Seq.{length-take-le}
 use borrow.Author.Tests.{leb-true, le-leb}
@@ -12,11 +12,10 @@ use Rattle.words.specs.Blocks.{blocks, recordsOf, laid}
 use Rattle.words.proofs.Records.{records-laid, holds-length}
 use Rattle.words.specs.Order.{ascends, rank}
 use Rattle.words.proofs.Ordered.{and-left, and-right, rank-le}
-use Rattle.rtp.specs.declared.opt.Opt.the-variants.{None, Some}
 use Rattle.durations.specs.Seconds.{largest}
 use Rattle.rtx_state.specs.declared.OptRtt.{OptRtt}
 use Rattle.rtx_state.specs.declared.OptRtt.the-variants as OptRtt
-use Rattle.rtx_state.specs.RoundTrip.{sampledRtt, optRttInRange}
+use Rattle.rtx_state.specs.RoundTrip.{optRttInRange}
 use Rattle.rtx_state.proofs.Range.{delay-lt}
 use Rattle.config.specs.declared.Settings.{Settings}
 use Rattle.config.specs.declared.RtpInboundQueueMode.{RtpInboundQueueMode}
@@ -25,14 +24,14 @@ use Rattle.config.specs.Timings.{resendDelayOf, nackTimings}
 use Rattle.config.specs.Valid.{longest}
 use Rattle.model.specs.declared.LastReturned.{LastReturned}
 use Rattle.model.specs.declared.Queue.{Queue}
-use Rattle.model.specs.Lists.{keep, leading, trailing, every?}
+use Rattle.model.specs.Lists.{leading, trailing, every?}
 use Rattle.model.specs.Records.{Gap, gapNumbers, returnedOf, highestOf}
-use Rattle.model.specs.Rules.{gapsBelow, gapsFrom, rttAfterRepair}
+use Rattle.model.specs.Rules.{gapsBelow, gapsFrom}
 use Rattle.model.specs.Push.{passed, atOrBelow}
 use Rattle.model.specs.Valid.{under, notPassed, gapSound}
 use Rattle.model.specs.Storage.{GAP-WORDS, gapWords, gapOfWords, gapsOf}
 use Rattle.model.proofs.Laid.{gaps-held, gap-coded}
-use Rattle.packet_gaps.specs.Gaps.{GapsIn, Small, onceOf, nackedOnce, sampledAt, instantsFit}
+use Rattle.packet_gaps.specs.Gaps.{GapsIn, Small, instantsFit}
 use Rattle.packet_gaps.specs.Sound.{passedOf, boundsOf, gapWithin}
 use Rattle.packet_gaps.proofs.Laws.{below-front}
 use Rattle.packet_gaps.proofs.Turns.{every-weaker}
@@ -79,15 +78,6 @@ pub small-timings : (set : Settings) (rtt : OptRtt) → set .«initial_nack_dela
 unfolding nackTimings resendDelayOf optRttInRange
 small-timings set OptRtt.None i d r = record { initial = omega arith; resend = omega arith }
 small-timings set (OptRtt.Some e) i d r = record { initial = omega arith; resend = delay-lt e r }
-
-pub repair-sample : (now : ℕ) (gs : List Gap) (rtt : OptRtt) → rttAfterRepair now gs rtt ≡ sampledAt now (onceOf gs) rtt
-unfolding rttAfterRepair onceOf nackedOnce sampledAt
-repair-sample now [] rtt = refl
-repair-sample now (g ∷ gs) rtt = go (eqb (g .nacks) 1)
-  where
-    go : (b : Bool) → cond b (sampledRtt rtt (now - g .nackedAt)) rtt ≡ sampledAt now (cond b (Some (g .nackedAt)) None) rtt
-    go true = refl
-    go false = refl
 
 -- ---- parts of the list
 

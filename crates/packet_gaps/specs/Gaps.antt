@@ -1,15 +1,11 @@
 -- 001: what the functions over gaps in storage say, in the terms of the queue's definitions.
 use mathlib.Core.Path.{_≡_}
-use mathlib.Core.Bool.{Bool, cond, _&&_}
-use mathlib.Core.List.{List, [], _∷_}
+use mathlib.Core.Bool.{Bool, _&&_}
+use mathlib.Core.List.{List}
 use Prim.Native.Nat.{ℕ, _*_, _-_, _^_, _%_, _≤_, _<_}
-use lib.Dec.{eqb, leb}
+use lib.Dec.{leb}
 use lib.ListN.{length}
 use Rattle.words.specs.Blocks.{laid}
-use Rattle.rtp.specs.declared.opt.Opt.{Opt}
-use Rattle.rtp.specs.declared.opt.Opt.the-variants.{None, Some}
-use Rattle.rtx_state.specs.declared.OptRtt.{OptRtt}
-use Rattle.rtx_state.specs.RoundTrip.{sampledRtt}
 use Rattle.config.specs.declared.NackTimings.{NackTimings}
 use Rattle.durations.specs.Seconds.{largest}
 use Rattle.model.specs.Records as Records
@@ -24,19 +20,6 @@ pub record GapsIn (words : List ℕ) (n : ℕ) : Type 0 where
 -- the record that a gap of the code stands for
 abbrev pub gap : Gap → Records.Gap
 gap g = record { number = g .number .0; detected = g .detected; nacks = g .nacks; nackedAt = g .«nacked_at» }
-
--- the instant of a gap's NACK, if there was just one
-unfoldable pub nackedOnce : Records.Gap → Opt
-nackedOnce g = cond (eqb (g .nacks) 1) (Some (g .nackedAt)) None
-
-unfoldable pub onceOf : List Records.Gap → Opt
-onceOf [] = None
-onceOf (g ∷ gs) = nackedOnce g
-
--- the estimate after a repair of what was NACKed at the instant, if it was
-unfoldable pub sampledAt : ℕ → Opt → OptRtt → OptRtt
-sampledAt now None rtt = rtt
-sampledAt now (Some at) rtt = sampledRtt rtt (now - at)
 
 -- its instants are no later than the latest of all
 unfoldable pub instantsFit : Records.Gap → Bool
