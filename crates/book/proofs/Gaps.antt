@@ -6,13 +6,13 @@ use mathlib.Core.List.{List, [], _∷_, _++_, map}
 use Prim.Native.Nat.{ℕ, _+_, _≤_}
 use native.Mathlib.Omega.{arith}
 use lib.Dec.{T, eqb, eqb→eq}
-use Rattle.rtx_state.specs.declared.OptRtt.{OptRtt}
 use Rattle.config.specs.declared.RtpInboundQueueMode.{RtpInboundQueueMode}
 use Rattle.config.specs.declared.RtpInboundQueueMode.the-variants.{Passthrough, SortedQueue}
 use Rattle.config.specs.declared.Settings.{Settings}
+use Rattle.config.specs.declared.NackTimings.{NackTimings}
 use Rattle.model.specs.Lists.{keep, leading, trailing, some?}
 use Rattle.model.specs.Records.{Gap, gapNumbers}
-use Rattle.model.specs.Rules.{is, below, without, gapsBelow, gapsFrom, fresh, due, nacked, nackDue, tried}
+use Rattle.model.specs.Rules.{is, below, without, gapsBelow, gapsFrom, fresh, due, nacked, nackedIfDue, nackDue, tried}
 use Rattle.model.specs.Poll.{givenUp, notGivenUp, lostBelow, leftFrom}
 use Rattle.model.proofs.Lists.{by-cases, by-or, not-not, eqb-no}
 use Rattle.book.proofs.Count.{by-compare, same, same-yes, same-no, count, count-nil}
@@ -27,13 +27,13 @@ unfolding fresh
 numbers-fresh now [] = refl
 numbers-fresh now (x ∷ xs) = ap (λ (l : List ℕ). x ∷ l) (numbers-fresh now xs)
 
-pub numbers-nackDue : (set : Settings) (rtt : OptRtt) (now : ℕ) (l : List Gap) → gapNumbers (nackDue set rtt now l) ≡ gapNumbers l
-unfolding nackDue nacked
-numbers-nackDue set rtt now [] = refl
-numbers-nackDue set rtt now (g ∷ gs) =
-    by-cases (λ (x : Gap). x .number ∷ gapNumbers (nackDue set rtt now gs) ≡ g .number ∷ gapNumbers gs) (due set rtt now g)
-    (λ t. ap (λ (l : List ℕ). g .number ∷ l) (numbers-nackDue set rtt now gs))
-    (λ t. ap (λ (l : List ℕ). g .number ∷ l) (numbers-nackDue set rtt now gs))
+pub numbers-nackDue : (t : NackTimings) (now : ℕ) (l : List Gap) → gapNumbers (nackDue t now l) ≡ gapNumbers l
+unfolding nackedIfDue nacked
+numbers-nackDue t now [] = refl
+numbers-nackDue t now (g ∷ gs) =
+    by-cases (λ (x : Gap). x .number ∷ gapNumbers (nackDue t now gs) ≡ g .number ∷ gapNumbers gs) (due t now g)
+    (λ d. ap (λ (l : List ℕ). g .number ∷ l) (numbers-nackDue t now gs))
+    (λ d. ap (λ (l : List ℕ). g .number ∷ l) (numbers-nackDue t now gs))
 
 -- ---- a list parted in two
 

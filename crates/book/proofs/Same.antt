@@ -20,7 +20,7 @@ use Rattle.model.specs.declared.LastReceived.{LastReceived}
 use Rattle.model.specs.declared.LastReceived.the-variants as LastReceived
 use Rattle.model.specs.Lists.{some?}
 use Rattle.model.specs.Records.{Entry, Gap, Remembered, State, entryNumbers, highestOf, returnedOf}
-use Rattle.model.specs.Rules.{extended, is, Place, placeOf, waits, rttAfterLate, MAX-GAP-SIZE}
+use Rattle.model.specs.Rules.{extended, is, Place, placeOf, waits, instantOf, sampledAt, MAX-GAP-SIZE}
 use Rattle.model.specs.Push as P
 use Rattle.model.specs.Push.{passed, insertSorted, extendedNumber, mediaEntry, heard, lastAfter, afterQueued, afterDropped, frontOut, afterMedia, repairEntry, repairFate, afterFate, afterRepair}
 use Rattle.model.specs.Poll as Q
@@ -158,7 +158,7 @@ module _ (now : ℕ) (s : State) (b : Book) (e : highestOf (s .queue .last) ≡ 
           (cond (out? l) (takeLowest (s .queue .config) (entryNumbers (x ∷ es)) (giveUp (s .queue .config) (beside s b))) (giveUp (s .queue .config) (beside s b)))
 
 same-nackAll : (now : ℕ) {c : Config} {s : State} {b : Book} → Same c s b → Same c (Q.nackAll now s) (B.nackAll c now b)
-unfolding Q.nackAll B.nackAll Q.estimateOf
+unfolding Q.nackAll B.nackAll
 same-nackAll now {c} {s} {b} same =
     by-same (λ (c : Config) (b : Book). Same c (Q.nackAll now s) (B.nackAll c now b)) same
     (record { config = refl; entries = refl; gaps = refl; highest = same .highest; estimate = refl; remembered = refl })
@@ -173,7 +173,7 @@ module _ (now : ℕ) (s : State) (b : Book) (e : highestOf (s .queue .last) ≡ 
   returned = returnedOf (s .queue .returned)
 
   same-repair : Past mode returned out (s .remembered) → (x : Entry) → Same (s .queue .config) (afterFate now x (repairFate s (x .number)) s) (onRepair now (x .number) (beside s b))
-  unfolding afterFate repairFate onRepair recover tooLate rttAfterLate Rtx.recordInTime Rtx.recordRedundant Rtx.recordTooLate
+  unfolding afterFate repairFate onRepair recover tooLate instantOf sampledAt Rtx.recordInTime Rtx.recordRedundant Rtx.recordTooLate
   same-repair p x = go (either (some? (is (x .number)) (s .gaps))) (either (passed mode returned (x .number)))
     where
       go : T (some? (is (x .number)) (s .gaps)) ⊎ T (not (some? (is (x .number)) (s .gaps))) → T (passed mode returned (x .number)) ⊎ T (not (passed mode returned (x .number)))
@@ -192,7 +192,7 @@ module _ (now : ℕ) (s : State) (b : Book) (e : highestOf (s .queue .last) ≡ 
             entries = refl;
             gaps = refl;
             highest = e;
-            estimate = ap (λ (l : List Remembered). rttAfterLate now l (s .queue .rtx .rtt)) (sym (no-sample mode returned (x .number) out (s .remembered) u p));
+            estimate = ap (λ (l : List Remembered). sampledAt now (instantOf l) (s .queue .rtx .rtt)) (sym (no-sample mode returned (x .number) out (s .remembered) u p));
             remembered = sym (none-forgotten mode returned (x .number) out (s .remembered) u p);
           })
 

@@ -14,7 +14,7 @@ use Rattle.rtx_state.specs.declared.OptRtt.the-variants as OptRtt
 use Rattle.model.specs.declared.Config.{Config}
 use Rattle.model.specs.Lists.{following, keep, some?}
 use Rattle.model.specs.Records.{Gap, Remembered, gapNumbers}
-use Rattle.model.specs.Rules.{extended, is, gapOf, without, gapsBelow, gapsFrom, Place, first, near, far, fills, other, placeOf, waits, between, gapsAfter, estimateIn, nackDue, rttAfterRepair, isOf, rttAfterLate, forgetFirst, rememberedAfter}
+use Rattle.model.specs.Rules.{extended, is, gapOf, without, gapsBelow, gapsFrom, Place, first, near, far, fills, other, placeOf, waits, between, gapsAfter, timingsIn, nackDue, onceOf, instantOf, sampledAt, isOf, forgetFirst, rememberedAfter}
 use Rattle.model.specs.Poll.{givenUp, notGivenUp, lostBelow, leftFrom}
 use Rattle.model.specs.Calls.{Call, media, repair, poll, pollNack, timeoutReceive, timeoutNack, rtxStats, highestReceived}
 use Rattle.book.specs.Sorted.{putIn}
@@ -122,7 +122,7 @@ recover now n b =
       handed = b .handed;
       lost = b .lost;
       forgotten = b .forgotten;
-      estimate = rttAfterRepair now (gapOf n (b .missing)) (b .estimate);
+      estimate = sampledAt now (onceOf (gapOf n (b .missing))) (b .estimate);
       remembered = b .remembered;
     }
 
@@ -136,7 +136,7 @@ tooLate now n b =
       handed = b .handed;
       lost = b .lost;
       forgotten = b .forgotten;
-      estimate = rttAfterLate now (keep (isOf n) (b .remembered)) (b .estimate);
+      estimate = sampledAt now (instantOf (keep (isOf n) (b .remembered))) (b .estimate);
       remembered = forgetFirst n (b .remembered);
     }
 
@@ -179,7 +179,7 @@ onPoll c out b = cond out (takeLowest c (b .waiting) (giveUp c b)) (giveUp c b)
 
 unfoldable pub nackAll : Config → ℕ → Book → Book
 nackAll c now b =
-    record { span = b .span; waiting = b .waiting; missing = nackDue (c .settings) (estimateIn (c .senders .«has_rtx») (b .estimate)) now (b .missing); handed = b .handed; lost = b .lost; forgotten = b .forgotten; estimate = b .estimate; remembered = b .remembered }
+    record { span = b .span; waiting = b .waiting; missing = nackDue (timingsIn c (b .estimate)) now (b .missing); handed = b .handed; lost = b .lost; forgotten = b .forgotten; estimate = b .estimate; remembered = b .remembered }
 
 -- ---- any call
 

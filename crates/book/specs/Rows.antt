@@ -13,7 +13,7 @@ use Rattle.rtx_state.specs.RoundTrip.{sampledRtt}
 use Rattle.config.specs.declared.RtpInboundQueueMode.the-variants.{SortedQueue}
 use Rattle.rtp_packet.specs.Original.{originalRefusal, originalNumber, originalPayload}
 use Rattle.model.specs.declared.Config.{Config}
-use Rattle.model.specs.Rules.{extended, fresh, due}
+use Rattle.model.specs.Rules.{extended, timingsIn, fresh, due}
 use Rattle.model.specs.Storage.{parse}
 use Rattle.model.specs.Calls.{media}
 use Rattle.book.specs.Sorted.{sort}
@@ -102,7 +102,7 @@ answer (reference highest n) = number (extended 16 (Opt.Some highest) n)
 answer (counts D numbers) = counted (length (parse (received D numbers .stored) .gaps)) (length (received D numbers .book .forgotten))
 answer (lists D numbers) = listed (arrived (received D numbers .book)) (sort (accounted (received D numbers .book)))
 answer (samples l) = estimate (foldl sampledRtt OptRtt.None l)
-answer (nackDue initialDelay detected now) = isDue (due (config 1 initialDelay .settings) OptRtt.None now (fresh detected 0))
+answer (nackDue initialDelay detected now) = isDue (due (timingsIn (config 1 initialDelay) OptRtt.None) now (fresh detected 0))
 answer (repairPayload p) = cond (eqb (originalRefusal p) 0) (original (originalNumber p) (originalPayload p)) (refused (originalRefusal p))
 
 unfoldable pub RowsHold : Type 0

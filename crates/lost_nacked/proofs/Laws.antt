@@ -16,12 +16,12 @@ use Rattle.rtp.specs.declared.opt.Opt.the-variants.{None, Some}
 use Rattle.durations.specs.Seconds.{largest}
 use Rattle.model.specs.Lists.{keep, leading, every?}
 use Rattle.model.specs.Records.{Gap, Remembered}
-use Rattle.model.specs.Rules.{isOf, forgetFirst}
+use Rattle.model.specs.Rules.{once, instantOf, isOf, forgetFirst}
 use Rattle.model.specs.Storage.{GAP-WORDS, REMEMBERED-WORDS, rememberedWords, rememberedOfWords, rememberedOf, gapOfWords, gapsOf}
 use Rattle.model.proofs.Laid.{remembered-held, remembered-coded, length-rememberedOf, length-gapsOf}
 use Rattle.packet_gaps.proofs.Laws.{noGap, read-is}
 use Rattle.packet_gaps.proofs.Turns.{drop-next, leading-none, leading-more, leading-end}
-use Rattle.lost_nacked.specs.Remembered.{RememberedIn, apart, instantOf, once, rememberedBy}
+use Rattle.lost_nacked.specs.Remembered.{RememberedIn, apart, rememberedBy}
 
 -- ---- what is read
 

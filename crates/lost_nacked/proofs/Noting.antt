@@ -15,12 +15,12 @@ use Rattle.words.proofs.Lists.{map-append, map-drop}
 use Rattle.words.proofs.Records.{records-laid, holds-length, holds-drop, holds-pushed}
 use Rattle.model.specs.Lists.{keep}
 use Rattle.model.specs.Records.{Gap, Remembered}
-use Rattle.model.specs.Rules.{MAX-LOST-NACKED, latest, remember, rememberedAfter}
+use Rattle.model.specs.Rules.{once, MAX-LOST-NACKED, latest, remember, rememberedAfter}
 use Rattle.model.specs.Storage.{GAP-WORDS, REMEMBERED-WORDS, rememberedWords, rememberedOf, gapOfWords, gapsOf}
 use Rattle.model.proofs.Laid.{remembered-held, remembered-coded, length-rememberedOf, length-gapsOf}
 use Rattle.packet_gaps.proofs.Laws.{noGap, read-is}
 use Rattle.packet_gaps.proofs.Writing.{keep-next, keep-skip, keep-around}
-use Rattle.lost_nacked.specs.Remembered.{RememberedIn, once}
+use Rattle.lost_nacked.specs.Remembered.{RememberedIn}
 
 -- a slice in which a list was laid down holds it
 module _ (cap n : ℕ) (rs : List Remembered) (s : List ℕ) (e : s ≡ laid rememberedWords cap rs) (l : length rs ≡ n) (h : REMEMBERED-WORDS * n ≤ cap) where

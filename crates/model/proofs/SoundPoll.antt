@@ -14,8 +14,8 @@ use Rattle.config.specs.declared.Settings.{Settings}
 use Rattle.config.specs.declared.RtpInboundQueueMode.{RtpInboundQueueMode}
 use Rattle.config.specs.declared.RtpInboundQueueMode.the-variants.{Passthrough, SortedQueue}
 use Rattle.model.specs.Records.{Entry, Gap, Remembered, State, returnedOf}
-use Rattle.model.specs.Rules.{MAX-LOST-NACKED, below, gapsBelow, gapsFrom, due, nacked, nackDue, tried, latest, remember, rememberedAfter}
-use Rattle.model.specs.Poll.{estimateOf, countLost, lose, givenUp, notGivenUp, drained, ready, front, lostBelow, leftFrom, handOut, afterPoll, nackAll, afterPollNack}
+use Rattle.model.specs.Rules.{MAX-LOST-NACKED, below, gapsBelow, gapsFrom, due, nacked, nackedIfDue, tried, latest, remember, rememberedAfter}
+use Rattle.model.specs.Poll.{timingsOf, countLost, lose, givenUp, notGivenUp, drained, ready, front, lostBelow, leftFrom, handOut, afterPoll, nackAll, afterPollNack}
 use Rattle.model.specs.Table.{lostWith, pollRefusal, pollNackRefusal}
 use Rattle.model.proofs.Lists.{by-cases, Each, none, each-first, each-imp, each-append, each-drop, each-keep, each-trailing, each-map, Rising, rising-keep, rising-trailing, length-keep, length-trailing}
 use Rattle.model.proofs.Sound.{Ahead, GapIn, Apart, RememberedIn, Sound}
@@ -165,9 +165,9 @@ nacked-in true g h = record { under = h .under; ahead = h .ahead; detected-by = 
 nacked-in false g h = h
 
 nacks-sound : (s : State) → Sound s → Sound (nackAll (s .queue .clock) s)
-unfolding nackAll nackDue
+unfolding nackAll nackedIfDue
 nacks-sound s h =
-    let isDue = due (s .queue .config .settings) (estimateOf (s .queue)) (s .queue .clock) in
+    let isDue = due (timingsOf (s .queue)) (s .queue .clock) in
     record {
       fits = record { entries-fit = h .fits .entries-fit; gaps-fit = rw length-map (h .fits .gaps-fit); remembered-fit = h .fits .remembered-fit };
       queue-in = h .queue-in;

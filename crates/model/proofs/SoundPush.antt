@@ -28,7 +28,7 @@ use Rattle.model.specs.Table.{mediaValues, tooManyGaps, mediaRefusal, fa
 use Rattle.model.proofs.Lists.{by-cases, by-nand, arm-yes, arm-no, Each, none, more, each-first, each-rest, each-keep, empty, rising-keep, length-keep, length-following, length-insert}
 use Rattle.model.proofs.Sound.{Reached, Ahead, ahead-of, By, EntryIn, ListsIn, QueueIn, ListsOf, Sound}
 use Rattle.model.proofs.SoundLists.{reached-gap, later, fewer, remembering, out, fill, come, step, from-ahead}
-use Rattle.model.proofs.SoundQueue.{not-refused, clock-of, counts-of, last-after, repair-in, late-in, clock-set, last-set, returned-set, rtx-set, counters-set, loss-set, dropped-in, heard-in}
+use Rattle.model.proofs.SoundQueue.{not-refused, clock-of, counts-of, last-after, sample-in, clock-set, last-set, returned-set, rtx-set, counters-set, loss-set, dropped-in, heard-in}
 
 -- ---- where a media number stands
 
@@ -188,7 +188,7 @@ module _ (now : ℕ) (e : Entry) (s : State) (h : Sound s) (later-now : s .queue
       let raised = each-first values in
       record {
         fits = record { entries-fit = h .fits .entries-fit; gaps-fit = h .fits .gaps-fit; remembered-fit = omega (arith, length-forget (e .number) (s .remembered), h .fits .remembered-fit) };
-        queue-in = rtx-set (clock-set q later-now) (record { rtt-in = late-in _ (s .queue .rtx .rtt) now-fits (q .rtx-in .rtt-in); in-time-fits = q .rtx-in .in-time-fits; too-late-fits = omega arith; redundant-fits = q .rtx-in .redundant-fits; bytes-fit = q .rtx-in .bytes-fit });
+        queue-in = rtx-set (clock-set q later-now) (record { rtt-in = sample-in _ (s .queue .rtx .rtt) now-fits (q .rtx-in .rtt-in); in-time-fits = q .rtx-in .in-time-fits; too-late-fits = omega arith; redundant-fits = q .rtx-in .redundant-fits; bytes-fit = q .rtx-in .bytes-fit });
         lists-in = remembering l (each-forget (e .number) (l .remembered-in));
       }
 
@@ -214,7 +214,7 @@ module _ (now : ℕ) (e : Entry) (s : State) (h : Sound s) (later-now : s .queue
               gaps-fit = omega (arith, length-keep (λ (g : Gap). not (is (e .number) g)) (s .gaps), h .fits .gaps-fit);
               remembered-fit = h .fits .remembered-fit;
             };
-        queue-in = loss-set (rtx-set (clock-set q later-now) (record { rtt-in = repair-in _ (s .queue .rtx .rtt) now-fits (q .rtx-in .rtt-in); in-time-fits = omega arith; too-late-fits = q .rtx-in .too-late-fits; redundant-fits = q .rtx-in .redundant-fits; bytes-fit = omega arith })) (lost-in (s .queue .loss) 1 (q .loss-in));
+        queue-in = loss-set (rtx-set (clock-set q later-now) (record { rtt-in = sample-in _ (s .queue .rtx .rtt) now-fits (q .rtx-in .rtt-in); in-time-fits = omega arith; too-late-fits = q .rtx-in .too-late-fits; redundant-fits = q .rtx-in .redundant-fits; bytes-fit = omega arith })) (lost-in (s .queue .loss) 1 (q .loss-in));
         lists-in = fill (later (h .lists-in) later-now) e k t;
       }
 

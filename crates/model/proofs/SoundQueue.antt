@@ -1,11 +1,13 @@
 -- What a call that is not refused says of its values, and that the queue's own numbers then stay within check 16's bounds.
 use mathlib.Core.Path.{_≡_}
 use mathlib.Core.Bool.{Bool, true, false, not, _&&_, _||_}
-use mathlib.Core.List.{List, [], _∷_}
+use mathlib.Core.List.{List}
 use Prim.Native.Nat.{ℕ, _+_, _-_, _≤_, _<_}
 use native.Mathlib.Omega.{arith}
-use lib.Dec.{T, leb, ltb, eqb, leb→le, le→leb, nltb→le, lit<}
+use lib.Dec.{T, leb, ltb, leb→le, le→leb, nltb→le, lit<}
 use lib.Ieee.Fits.{and-l, and-r, and-i}
+use Rattle.rtp.specs.declared.opt.Opt.{Opt}
+use Rattle.rtp.specs.declared.opt.Opt.the-variants.{None, Some}
 use Rattle.refusals.specs.Refusals.{CLOCK, COUNT}
 use Rattle.durations.specs.Seconds.{largest}
 use Rattle.jitter.specs.declared.Jitter.{Jitter}
@@ -23,13 +25,13 @@ use Rattle.model.specs.declared.LastReceived.the-variants as LastReceive
 use Rattle.model.specs.declared.Queue.{Queue}
 use Rattle.model.specs.Lists.{some?}
 use Rattle.model.specs.declared.Counters.{Counters}
-use Rattle.model.specs.Records.{Gap, Remembered, highestOf, withClock, withLast, withReturned, withRtx, withCounters, withJitter, withLoss}
-use Rattle.model.specs.Rules.{Place, first, near, far, fills, other, rttAfterRepair, rttAfterLate}
+use Rattle.model.specs.Records.{highestOf, withClock, withLast, withReturned, withRtx, withCounters, withJitter, withLoss}
+use Rattle.model.specs.Rules.{Place, first, near, far, fills, other, sampledAt}
 use Rattle.model.specs.Push.{jitterAfter, heard, lastAfter, countDropped}
 use Rattle.model.specs.Poll.{countLost, lose}
 use Rattle.model.specs.Valid.{lastSound}
 use Rattle.model.specs.Table.{refuseIf, clockRefusal, countRefusal}
-use Rattle.model.proofs.Lists.{by-cases, by-nor, Each, each-imp, each-not-of-some}
+use Rattle.model.proofs.Lists.{by-nor, Each, each-imp, each-not-of-some}
 use Rattle.model.proofs.Sound.{Under, CountersIn, RtxIn, QueueIn}
 use Rattle.model.proofs.SoundTest.{rate-of}
 
@@ -89,15 +91,10 @@ jitter-after clock {now} {ts} {rate} (LastReceived.Some r) j some small a b t h 
     let c = leb→le (r .timestamp .0) largest (and-l (leb (r .timestamp .0) largest) (leb (r .number .0) largest) (and-r (leb (r .instant) clock) (leb (r .timestamp .0) largest && leb (r .number .0) largest) t)) in
     updated-in rate some (omega arith) j h now ts (r .instant) (r .timestamp .0) (omega arith) (omega arith) (omega arith)
 
-pub repair-in : {now : ℕ} (l : List Gap) (rtt : OptRtt) → now ≤ largest → T (optRttInRange rtt) → T (optRttInRange (rttAfterRepair now l rtt))
-unfolding rttAfterRepair
-repair-in [] rtt le t = t
-repair-in {now} (g ∷ gs) rtt le t = by-cases (λ r. T (optRttInRange r)) (eqb (g .nacks) 1) (λ y. sampled-in rtt (now - g .nackedAt) t (omega arith)) (λ n. t)
-
-pub late-in : {now : ℕ} (l : List Remembered) (rtt : OptRtt) → now ≤ largest → T (optRttInRange rtt) → T (optRttInRange (rttAfterLate now l rtt))
-unfolding rttAfterLate
-late-in [] rtt le t = t
-late-in {now} (r ∷ rs) rtt le t = sampled-in rtt (now - r .nackedAt) t (omega arith)
+pub sample-in : {now : ℕ} (instant : Opt) (rtt : OptRtt) → now ≤ largest → T (optRttInRange rtt) → T (optRttInRange (sampledAt now instant rtt))
+unfolding sampledAt
+sample-in None rtt le t = t
+sample-in {now} (Some i) rtt le t = sampled-in rtt (now - i) t (omega arith)
 
 -- ---- one part of the queue set
 

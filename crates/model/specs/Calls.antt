@@ -14,7 +14,7 @@ use Rattle.model.specs.declared.Queue.{Queue}
 use Rattle.model.specs.Records.{Entry, State, highestOf}
 use Rattle.model.specs.Rules.{waits}
 use Rattle.model.specs.Push.{mediaEntry, mediaPlace, afterMedia, Fate, repairEntry, repairFate, afterRepair}
-use Rattle.model.specs.Poll.{front, afterPoll, nackNumbers, afterPollNack, receiveTimeout, estimateOf, nackTimeout, figures}
+use Rattle.model.specs.Poll.{front, afterPoll, nackNumbers, afterPollNack, receiveTimeout, timingsOf, nackTimeout, figures}
 
 -- A call with its own arguments; `now` is the first. The last argument of `poll` and `pollNack` is the lent output.
 pub data Call : Type 0 where
@@ -86,7 +86,7 @@ answered (repair now d) s = repaired (repairFate s (repairEntry d (s .queue) .nu
 answered (poll now out) s = handed (s .queue) (front now s (s .entries))
 answered (pollNack now out) s = nackAnswer (nackNumbers now s)
 answered (timeoutReceive now) s = timeout (receiveTimeout (s .queue .config .settings .mode) (s .queue .config .settings) (s .queue .last) (s .entries) now)
-answered (timeoutNack now) s = timeout (nackTimeout (s .queue .config .settings) (estimateOf (s .queue)) now (s .gaps))
+answered (timeoutNack now) s = timeout (nackTimeout (timingsOf (s .queue)) now (s .gaps))
 answered rtxStats s = stats (figures (s .queue))
 answered highestReceived s = highest (highestOf (s .queue .last))
 

@@ -7,7 +7,6 @@ use lib.ListN.{length, drop}
 use Rattle.rtp.specs.Opt.{optMin}
 use Rattle.rtp.specs.declared.opt.Opt.{Opt}
 use Rattle.rtp.specs.declared.opt.Opt.the-variants.{None, Some}
-use Rattle.rtx_state.specs.declared.OptRtt.{OptRtt}
 use Rattle.rtx_state.specs.Repair.{rtxStats}
 use Rattle.stats.specs.declared.OptRtxStats.{OptRtxStats}
 use Rattle.stats.specs.declared.OptRtxStats.the-variants as OptRtxStats
@@ -15,6 +14,7 @@ use Rattle.packet_loss.specs.Loss.{recordLost}
 use Rattle.config.specs.declared.RtpInboundQueueMode.{RtpInboundQueueMode}
 use Rattle.config.specs.declared.RtpInboundQueueMode.the-variants.{Passthrough, SortedQueue}
 use Rattle.config.specs.declared.Settings.{Settings}
+use Rattle.config.specs.declared.NackTimings.{NackTimings}
 use Rattle.config.specs.Timings.{targetDelay}
 use Rattle.handout.specs.Limit.{maxTimestamp}
 use Rattle.handout.specs.Timeout.{timeoutReceive}
@@ -24,7 +24,7 @@ use Rattle.model.specs.declared.Counters.{Counters}
 use Rattle.model.specs.declared.Queue.{Queue}
 use Rattle.model.specs.Lists.{keep, leading, trailing}
 use Rattle.model.specs.Records.{Entry, Gap, State, withClock, withReturned, withCounters, withLoss}
-use Rattle.model.specs.Rules.{gapsBelow, gapsFrom, dueAt, due, estimateIn, nackDue, tried, rememberedAfter}
+use Rattle.model.specs.Rules.{gapsBelow, gapsFrom, timingsIn, dueAt, due, nackDue, tried, rememberedAfter}
 
 unfoldable pub countLost : ℕ → Counters → Counters
 countLost n c = record { dropped = c .dropped; received = c .received; bytes = c .bytes; lost = c .lost + n }
@@ -101,12 +101,12 @@ afterPoll now s = handOut (front now s (s .entries)) (drained now s)
 
 -- ---- `poll_nack`
 
-unfoldable pub estimateOf : Queue → OptRtt
-estimateOf q = estimateIn (q .config .senders .«has_rtx») (q .rtx .rtt)
+abbrev pub timingsOf : Queue → NackTimings
+timingsOf q = timingsIn (q .config) (q .rtx .rtt)
 
 -- the gaps for which a NACK goes out
 unfoldable pub dueGaps : ℕ → State → List Gap
-dueGaps now s = keep (due (s .queue .config .settings) (estimateOf (s .queue)) now) (s .gaps)
+dueGaps now s = keep (due (timingsOf (s .queue)) now) (s .gaps)
 
 -- "The due numbers come out ascending by extended number, as 16 bits"
 unfoldable pub nackNumbers : ℕ → State → List ℕ
@@ -114,7 +114,7 @@ nackNumbers now s = map (λ (g : Gap). g .number % 2 ^ 16) (dueGaps now (drained
 
 unfoldable pub nackAll : ℕ → State → State
 nackAll now s =
-    record { queue = s .queue; entries = s .entries; gaps = nackDue (s .queue .config .settings) (estimateOf (s .queue)) now (s .gaps); remembered = s .remembered }
+    record { queue = s .queue; entries = s .entries; gaps = nackDue (timingsOf (s .queue)) now (s .gaps); remembered = s .remembered }
 
 unfoldable pub afterPollNack : ℕ → State → State
 afterPollNack now s = nackAll now (drained now s)
@@ -130,9 +130,9 @@ receiveTimeout SortedQueue set (LastReceived.Some r) (e ∷ es) now =
     Some (timeoutReceive (r .instant) (r .timestamp .0) (e .timestamp) (set .«clock_rate») (targetDelay set) now)
 
 -- "the next time": the least that is left until a gap is due
-unfoldable pub nackTimeout : Settings → OptRtt → ℕ → List Gap → Opt
-nackTimeout set rtt now [] = None
-nackTimeout set rtt now (g ∷ gs) = optMin (Some (dueAt set rtt g - now)) (nackTimeout set rtt now gs)
+unfoldable pub nackTimeout : NackTimings → ℕ → List Gap → Opt
+nackTimeout t now [] = None
+nackTimeout t now (g ∷ gs) = optMin (Some (dueAt t g - now)) (nackTimeout t now gs)
 
 unfoldable pub figures : Queue → OptRtxStats
 figures q = cond (q .config .senders .«has_rtx») (OptRtxStats.Some (rtxStats (q .rtx))) OptRtxStats.None

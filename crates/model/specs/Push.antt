@@ -9,7 +9,6 @@ use Rattle.rtp.specs.declared.opt.Opt.the-variants.{None, Some}
 use Rattle.rtp_packet.specs.Header.{sequenceNumber, timestamp, marker, payloadOf}
 use Rattle.rtp_packet.specs.Original.{originalNumber, originalPayload}
 use Rattle.rtx_state.specs.declared.RtxState.{RtxState}
-use Rattle.rtx_state.specs.declared.OptRtt.{OptRtt}
 use Rattle.rtx_state.specs.Repair.{recordInTime, recordRedundant, recordTooLate}
 use Rattle.jitter.specs.declared.Jitter.{Jitter}
 use Rattle.jitter.specs.Interarrival.{jitterUpdated}
@@ -22,7 +21,7 @@ use Rattle.model.specs.declared.Counters.{Counters}
 use Rattle.model.specs.declared.Queue.{Queue}
 use Rattle.model.specs.Lists.{keep, some?}
 use Rattle.model.specs.Records.{Entry, State, highestOf, lastTimestampOf, returnedOf, withClock, withLast, withReturned, withRtx, withCounters, withJitter, withLoss}
-use Rattle.model.specs.Rules.{extended, is, gapOf, without, gapsFrom, Place, first, near, far, fills, other, placeOf, waits, gapsAfter, rttAfterRepair, isOf, rttAfterLate, forgetFirst}
+use Rattle.model.specs.Rules.{extended, is, gapOf, without, gapsFrom, Place, first, near, far, fills, other, placeOf, waits, gapsAfter, onceOf, instantOf, sampledAt, isOf, forgetFirst}
 
 -- ---- what both share
 
@@ -133,16 +132,16 @@ unfoldable pub repairEntry : List ℕ → Queue → Entry
 repairEntry d q =
     record { arrival = None; timestamp = extendedTimestamp q (timestamp d); number = extendedNumber q (originalNumber (payloadOf d)); marker = marker d; payload = originalPayload (payloadOf d) }
 
-withRtt : OptRtt → RtxState → RtxState
-withRtt rtt r =
-    record { rtt = rtt; «received_in_time» = r .«received_in_time»; «received_too_late» = r .«received_too_late»; «received_redundant» = r .«received_redundant»; «bytes_received» = r .«bytes_received» }
+-- the repair state with the sample that the repair of a number yields
+abbrev pub sampled : ℕ → Opt → RtxState → RtxState
+sampled now instant r =
+    record { rtt = sampledAt now instant (r .rtt); «received_in_time» = r .«received_in_time»; «received_too_late» = r .«received_too_late»; «received_redundant» = r .«received_redundant»; «bytes_received» = r .«bytes_received» }
 
 unfoldable pub afterFate : ℕ → Entry → Fate → State → State
-unfolding withRtt
 afterFate now e tooLate s =
     let q = withClock (s .queue) now in
     record {
-      queue = withRtx q (withRtt (rttAfterLate now (keep (isOf (e .number)) (s .remembered)) (q .rtx .rtt)) (recordTooLate (q .rtx)));
+      queue = withRtx q (sampled now (instantOf (keep (isOf (e .number)) (s .remembered))) (recordTooLate (q .rtx)));
       entries = s .entries;
       gaps = s .gaps;
       remembered = forgetFirst (e .number) (s .remembered);
@@ -154,7 +153,7 @@ afterFate now e recovered s =
     let q = withClock (s .queue) now in
     record {
       queue =
-          withLoss (withRtx q (withRtt (rttAfterRepair now (gapOf (e .number) (s .gaps)) (q .rtx .rtt)) (recordInTime (q .rtx) (length (e .payload))))) (recordLost (q .loss) 1);
+          withLoss (withRtx q (sampled now (onceOf (gapOf (e .number) (s .gaps))) (recordInTime (q .rtx) (length (e .payload))))) (recordLost (q .loss) 1);
       entries = insertSorted e (s .entries);
       gaps = without (e .number) (s .gaps);
       remembered = s .remembered;

@@ -10,8 +10,9 @@ use Rattle.rtp.specs.declared.opt.Opt.the-variants.{None, Some}
 use Rattle.rtx_state.specs.declared.OptRtt.{OptRtt}
 use Rattle.rtx_state.specs.declared.OptRtt.the-variants as OptRtt
 use Rattle.rtx_state.specs.RoundTrip.{sampledRtt}
-use Rattle.config.specs.declared.Settings.{Settings}
-use Rattle.config.specs.Timings.{resendDelayOf}
+use Rattle.config.specs.declared.NackTimings.{NackTimings}
+use Rattle.config.specs.Timings.{nackTimings}
+use Rattle.model.specs.declared.Config.{Config}
 use Rattle.model.specs.Lists.{following, keep, some?}
 use Rattle.model.specs.Records.{Gap, Remembered}
 
@@ -92,24 +93,30 @@ gapsAfter now n other l = l
 
 -- ---- NACKs
 
--- "detected + initial delay, or last NACK + resend delay"
-unfoldable pub dueAt : Settings → OptRtt → Gap → ℕ
-dueAt set rtt g = cond (eqb (g .nacks) 0) (g .detected + set .«initial_nack_delay») (g .nackedAt + resendDelayOf set rtt)
-
-unfoldable pub due : Settings → OptRtt → ℕ → Gap → Bool
-due set rtt now g = leb (dueAt set rtt g) now
-
-unfoldable pub nacked : ℕ → Gap → Gap
-nacked now g = record { number = g .number; detected = g .detected; nacks = suc (g .nacks); nackedAt = now }
-
 -- a session without RTX measures no round trip
 unfoldable pub estimateIn : Bool → OptRtt → OptRtt
 estimateIn false rtt = OptRtt.None
 estimateIn true rtt = rtt
 
--- the gaps after a NACK for each that is due
-unfoldable pub nackDue : Settings → OptRtt → ℕ → List Gap → List Gap
-nackDue set rtt now l = map (λ (g : Gap). cond (due set rtt now g) (nacked now g) g) l
+unfoldable pub timingsIn : Config → OptRtt → NackTimings
+timingsIn c rtt = nackTimings (c .settings) (estimateIn (c .senders .«has_rtx») rtt)
+
+-- "detected + initial delay, or last NACK + resend delay"
+unfoldable pub dueAt : NackTimings → Gap → ℕ
+dueAt t g = cond (eqb (g .nacks) 0) (g .detected + t .initial) (g .nackedAt + t .resend)
+
+abbrev pub due : NackTimings → ℕ → Gap → Bool
+due t now g = leb (dueAt t g) now
+
+unfoldable pub nacked : ℕ → Gap → Gap
+nacked now g = record { number = g .number; detected = g .detected; nacks = suc (g .nacks); nackedAt = now }
+
+-- the gap after a NACK, if one is due
+unfoldable pub nackedIfDue : NackTimings → ℕ → Gap → Gap
+nackedIfDue t now g = cond (due t now g) (nacked now g) g
+
+abbrev pub nackDue : NackTimings → ℕ → List Gap → List Gap
+nackDue t now l = map (nackedIfDue t now) l
 
 -- NACKed at least max times
 unfoldable pub tried : ℕ → Gap → Bool
@@ -117,19 +124,33 @@ tried max g = leb max (g .nacks)
 
 -- ---- the round trip
 
--- "A gap NACKed just once yields a sample when its repair comes"
-unfoldable pub rttAfterRepair : ℕ → List Gap → OptRtt → OptRtt
-rttAfterRepair now [] rtt = rtt
-rttAfterRepair now (g ∷ gs) rtt = cond (eqb (g .nacks) 1) (sampledRtt rtt (now - g .nackedAt)) rtt
+-- NACKed just once
+abbrev pub once : Gap → Bool
+once g = eqb (g .nacks) 1
 
--- "also too late if the number is still remembered", which it then no longer is
+-- the instant of a gap's NACK, if there was just one
+unfoldable pub nackedOnce : Gap → Opt
+nackedOnce g = cond (once g) (Some (g .nackedAt)) None
+
+unfoldable pub onceOf : List Gap → Opt
+onceOf [] = None
+onceOf (g ∷ gs) = nackedOnce g
+
+-- the instant of the NACK of a number that is remembered
+unfoldable pub instantOf : List Remembered → Opt
+instantOf [] = None
+instantOf (r ∷ rs) = Some (r .nackedAt)
+
+-- "A gap NACKed just once yields a sample when its repair comes, also too late if the number is still remembered": the estimate after a
+-- repair of a number that was NACKed at this instant, if one is told
+unfoldable pub sampledAt : ℕ → Opt → OptRtt → OptRtt
+sampledAt now None rtt = rtt
+sampledAt now (Some instant) rtt = sampledRtt rtt (now - instant)
+
 unfoldable pub isOf : ℕ → Remembered → Bool
 isOf n r = eqb (r .number) n
 
-unfoldable pub rttAfterLate : ℕ → List Remembered → OptRtt → OptRtt
-rttAfterLate now [] rtt = rtt
-rttAfterLate now (r ∷ rs) rtt = sampledRtt rtt (now - r .nackedAt)
-
+-- a number that gave its sample is no longer remembered
 unfoldable pub forgetFirst : ℕ → List Remembered → List Remembered
 forgetFirst n [] = []
 forgetFirst n (r ∷ rs) = cond (isOf n r) rs (r ∷ forgetFirst n rs)
@@ -148,4 +169,4 @@ remember g = record { number = g .number; nackedAt = g .nackedAt }
 unfoldable pub rememberedAfter : Bool → List Gap → List Remembered → List Remembered
 unfolding latest
 rememberedAfter false lost l = l
-rememberedAfter true lost l = latest (l ++ map remember (keep (λ (g : Gap). eqb (g .nacks) 1) lost))
+rememberedAfter true lost l = latest (l ++ map remember (keep once lost))

@@ -19,10 +19,10 @@ use Rattle.durations.specs.Seconds.{largest}
 use Rattle.config.specs.declared.NackTimings.{NackTimings}
 use Rattle.model.specs.Lists.{keep, some?, every?}
 use Rattle.model.specs.Records.{Gap, gapNumbers}
-use Rattle.model.specs.Rules.{is, below, gapOf, without, gapsBelow, gapsFrom}
+use Rattle.model.specs.Rules.{is, below, gapOf, without, gapsBelow, gapsFrom, due}
 use Rattle.model.specs.Storage.{GAP-WORDS, gapWords, gapOfWords, gapsOf}
 use Rattle.model.proofs.Laid.{gaps-held, length-gapsOf}
-use Rattle.packet_gaps.specs.Gaps.{GapsIn, instantsFit, dueBy}
+use Rattle.packet_gaps.specs.Gaps.{GapsIn, instantsFit}
 use Rattle.packet_gaps.proofs.Turns.{every-at}
 
 -- ---- what is read
@@ -203,5 +203,5 @@ module _ (s : List ℕ) (n i : ℕ) (g : Gap) (e : g ≡ gapOfWords (take GAP-WO
   read-fits a = ap instantsFit read-is ∙ every-at instantsFit (gapsOf s n) noGap i a (rw length-gapsOf h)
 
 -- x, which was read as g, is due or not as the test of g says
-pub due-as : (t : NackTimings) (now : ℕ) (g x : Gap) (r b : Bool) → r ≡ dueBy t now g → g ≡ x → r ≡ b → dueBy t now x ≡ b
-due-as t now g x r b e f z = ap (dueBy t now) (sym f) ∙ sym e ∙ z
+pub due-as : (t : NackTimings) (now : ℕ) (g x : Gap) (r b : Bool) → r ≡ due t now g → g ≡ x → r ≡ b → due t now x ≡ b
+due-as t now g x r b e f z = ap (due t now) (sym f) ∙ sym e ∙ z

@@ -1,10 +1,10 @@
 -- What the contracts of this crate say, in the terms of the queue's definitions; and how one call's result meets the next one's demand.
 use mathlib.Core.Path.{_≡_, refl, sym, ap, _∙_}
 use mathlib.Core.Bool.{Bool, true, false, cond, _&&_}
-use mathlib.Core.List.{List, [], _∷_, map}
+use mathlib.Core.List.{List, [], _∷_}
 use Prim.Native.Nat.{ℕ, zero, suc, _*_, _-_, _≤_}
 use native.Mathlib.Omega.{arith}
-use lib.Dec.{T, eqb, leb}
+use lib.Dec.{T, leb}
 use lib.ListN.{length, take, drop, length-map}
 use lib.Seq.{length-take-le}
 use borrow.Author.Tests.{leb-true, le-leb}
@@ -12,11 +12,10 @@ use Rattle.words.specs.Blocks.{blocks, recordsOf, laid}
 use Rattle.words.proofs.Records.{records-laid, holds-length}
 use Rattle.words.specs.Order.{ascends, rank}
 use Rattle.words.proofs.Ordered.{and-left, and-right, rank-le}
-use Rattle.rtp.specs.declared.opt.Opt.the-variants.{None, Some}
 use Rattle.durations.specs.Seconds.{largest}
 use Rattle.rtx_state.specs.declared.OptRtt.{OptRtt}
 use Rattle.rtx_state.specs.declared.OptRtt.the-variants as OptRtt
-use Rattle.rtx_state.specs.RoundTrip.{sampledRtt, optRttInRange}
+use Rattle.rtx_state.specs.RoundTrip.{optRttInRange}
 use Rattle.rtx_state.proofs.Range.{delay-lt}
 use Rattle.config.specs.declared.Settings.{Settings}
 use Rattle.config.specs.declared.RtpInboundQueueMode.{RtpInboundQueueMode}
@@ -25,15 +24,14 @@ use Rattle.config.specs.Timings.{resendDelayOf, nackTimings}
 use Rattle.config.specs.Valid.{longest}
 use Rattle.model.specs.declared.LastReturned.{LastReturned}
 use Rattle.model.specs.declared.Queue.{Queue}
-use Rattle.model.specs.Lists.{keep, leading, trailing, every?}
+use Rattle.model.specs.Lists.{leading, trailing, every?}
 use Rattle.model.specs.Records.{Gap, gapNumbers, returnedOf, highestOf}
-use Rattle.model.specs.Rules.{gapsBelow, gapsFrom, dueAt, due, nackDue, rttAfterRepair}
+use Rattle.model.specs.Rules.{gapsBelow, gapsFrom}
 use Rattle.model.specs.Push.{passed, atOrBelow}
-use Rattle.model.specs.Poll.{nackTimeout}
 use Rattle.model.specs.Valid.{under, notPassed, gapSound}
 use Rattle.model.specs.Storage.{GAP-WORDS, gapWords, gapOfWords, gapsOf}
 use Rattle.model.proofs.Laid.{gaps-held, gap-coded}
-use Rattle.packet_gaps.specs.Gaps.{GapsIn, Small, onceOf, nackedOnce, sampledAt, dueAfter, dueBy, nackedBy, timeoutBy, instantsFit}
+use Rattle.packet_gaps.specs.Gaps.{GapsIn, Small, instantsFit}
 use Rattle.packet_gaps.specs.Sound.{passedOf, boundsOf, gapWithin}
 use Rattle.packet_gaps.proofs.Laws.{below-front}
 use Rattle.packet_gaps.proofs.Turns.{every-weaker}
@@ -75,34 +73,11 @@ sound-instants q gs c e = every-weaker (gapSound q) instantsFit one gs e
 
 -- ---- NACKs
 
-module _ (set : Settings) (rtt : OptRtt) (now : ℕ) where
-  pub due-keep : (gs : List Gap) → keep (due set rtt now) gs ≡ keep (dueBy (nackTimings set rtt) now) gs
-  unfolding due dueAt dueAfter nackTimings
-  due-keep gs = refl
-
-  pub due-nacked : (gs : List Gap) → nackDue set rtt now gs ≡ map (nackedBy (nackTimings set rtt) now) gs
-  unfolding nackDue nackedBy due dueAt dueAfter nackTimings
-  due-nacked gs = refl
-
-  pub timeout-is : (gs : List Gap) → nackTimeout set rtt now gs ≡ timeoutBy (nackTimings set rtt) now gs
-  unfolding nackTimeout timeoutBy dueAt dueAfter nackTimings
-  timeout-is [] = refl
-  timeout-is (g ∷ gs) = rw (timeout-is gs)
-
 -- valid settings and an estimate in range give small timings
 pub small-timings : (set : Settings) (rtt : OptRtt) → set .«initial_nack_delay» ≤ longest → set .«default_nack_resend_delay» ≤ longest → T (optRttInRange rtt) → Small (nackTimings set rtt)
 unfolding nackTimings resendDelayOf optRttInRange
 small-timings set OptRtt.None i d r = record { initial = omega arith; resend = omega arith }
 small-timings set (OptRtt.Some e) i d r = record { initial = omega arith; resend = delay-lt e r }
-
-pub repair-sample : (now : ℕ) (gs : List Gap) (rtt : OptRtt) → rttAfterRepair now gs rtt ≡ sampledAt now (onceOf gs) rtt
-unfolding rttAfterRepair onceOf nackedOnce sampledAt
-repair-sample now [] rtt = refl
-repair-sample now (g ∷ gs) rtt = go (eqb (g .nacks) 1)
-  where
-    go : (b : Bool) → cond b (sampledRtt rtt (now - g .nackedAt)) rtt ≡ sampledAt now (cond b (Some (g .nackedAt)) None) rtt
-    go true = refl
-    go false = refl
 
 -- ---- parts of the list
 

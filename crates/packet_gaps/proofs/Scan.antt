@@ -12,11 +12,12 @@ use Rattle.rtp.specs.declared.opt.Opt.the-variants.{None, Some}
 use Rattle.config.specs.declared.NackTimings.{NackTimings}
 use Rattle.model.specs.Lists.{keep, leading, some?}
 use Rattle.model.specs.Records.{Gap}
-use Rattle.model.specs.Rules.{tried}
+use Rattle.model.specs.Rules.{dueAt, due, tried}
+use Rattle.model.specs.Poll.{nackTimeout}
 use Rattle.model.specs.Storage.{GAP-WORDS, gapOfWords, gapsOf}
 use Rattle.model.proofs.Laid.{length-gapsOf}
 use Rattle.packet_gaps.specs.declared.check.Bounds.{Bounds}
-use Rattle.packet_gaps.specs.Gaps.{full, dueAfter, dueBy, timeoutBy}
+use Rattle.packet_gaps.specs.Gaps.{full}
 use Rattle.packet_gaps.specs.Sound.{gapWithin}
 use Rattle.packet_gaps.proofs.Laws.{noGap, gap-numbers, number-at, read-is}
 use Rattle.packet_gaps.proofs.Turns.{drop-next, some-found, some-other, some-skip, keep-end, leading-none, leading-more, leading-end, left, left-bad, left-last, left-unordered, left-more, left-end}
@@ -30,7 +31,7 @@ gapsLeft b s n i = left numberOf (gapWithin b) noGap (gapsOf s n) i
 
 -- those that can be NACKed no more, from place i on
 abbrev pub fullFrom : NackTimings → ℕ → List ℕ → ℕ → ℕ → Bool
-fullFrom t now s n i = some? full (keep (dueBy t now) (drop i (gapsOf s n)))
+fullFrom t now s n i = some? full (keep (due t now) (drop i (gapsOf s n)))
 
 module _ (s : List ℕ) (n i : ℕ) (g : Gap) (e : g ≡ gapOfWords (take GAP-WORDS (drop (GAP-WORDS * i) s))) (h : i < n) where
   gs : List Gap
@@ -63,25 +64,25 @@ module _ (s : List ℕ) (n i : ℕ) (g : Gap) (e : g ≡ gapOfWords (take GAP-WO
       scan-more f l = left-more numberOf (gapWithin b) noGap gs i inside (omega (arith, length-gapsOf s n)) (g .number) (getD s (GAP-WORDS * (i + 1)) 0) (ap numberOf here ∙ sym (number-at gs i)) (sym (ap (λ (l : List ℕ). getD l (i + 1) 0) (gap-numbers s n) ∙ first-at GAP-WORDS n s (i + 1) (omega arith) k)) (ap (gapWithin b) (sym here) ∙ f) l
 
   module _ (t : NackTimings) (now : ℕ) where
-    pub full-found : dueBy t now g ≡ true → full g ≡ true → fullFrom t now s n i ≡ true
+    pub full-found : due t now g ≡ true → full g ≡ true → fullFrom t now s n i ≡ true
     unfolding gs
-    full-found a f = some-found noGap gs i inside (dueBy t now) full (ap (dueBy t now) (sym here) ∙ a) (ap full (sym here) ∙ f)
+    full-found a f = some-found noGap gs i inside (due t now) full (ap (due t now) (sym here) ∙ a) (ap full (sym here) ∙ f)
 
-    pub full-other : dueBy t now g ≡ true → full g ≡ false → fullFrom t now s n i ≡ fullFrom t now s n (i + 1)
+    pub full-other : due t now g ≡ true → full g ≡ false → fullFrom t now s n i ≡ fullFrom t now s n (i + 1)
     unfolding gs
-    full-other a f = some-other noGap gs i inside (dueBy t now) full (ap (dueBy t now) (sym here) ∙ a) (ap full (sym here) ∙ f)
+    full-other a f = some-other noGap gs i inside (due t now) full (ap (due t now) (sym here) ∙ a) (ap full (sym here) ∙ f)
 
-    pub full-skip : dueBy t now g ≡ false → fullFrom t now s n i ≡ fullFrom t now s n (i + 1)
+    pub full-skip : due t now g ≡ false → fullFrom t now s n i ≡ fullFrom t now s n (i + 1)
     unfolding gs
-    full-skip a = some-skip noGap gs i inside (dueBy t now) full (ap (dueBy t now) (sym here) ∙ a)
+    full-skip a = some-skip noGap gs i inside (due t now) full (ap (due t now) (sym here) ∙ a)
 
-    timeout-more : timeoutBy t now (drop i (gapsOf s n)) ≡ optMin (Some (dueAfter t g - now)) (timeoutBy t now (drop (i + 1) (gapsOf s n)))
-    unfolding gs timeoutBy
-    timeout-more = ap (timeoutBy t now) (drop-next noGap gs i inside) ∙ ap (λ (x : Gap). optMin (Some (dueAfter t x - now)) (timeoutBy t now (drop (i + 1) gs))) (sym here)
+    timeout-more : nackTimeout t now (drop i (gapsOf s n)) ≡ optMin (Some (dueAt t g - now)) (nackTimeout t now (drop (i + 1) (gapsOf s n)))
+    unfolding gs nackTimeout
+    timeout-more = ap (nackTimeout t now) (drop-next noGap gs i inside) ∙ ap (λ (x : Gap). optMin (Some (dueAt t x - now)) (nackTimeout t now (drop (i + 1) gs))) (sym here)
 
     pub timeout-step : (r timeout : Opt) (left at m : ℕ)
-        → r ≡ optMin (Some left) timeout → left ≡ at - now → at ≡ dueAfter t g → timeout ≡ timeoutBy t now (drop m (gapsOf s n)) → i + 1 ≡ m
-        → r ≡ timeoutBy t now (drop i (gapsOf s n))
+        → r ≡ optMin (Some left) timeout → left ≡ at - now → at ≡ dueAt t g → timeout ≡ nackTimeout t now (drop m (gapsOf s n)) → i + 1 ≡ m
+        → r ≡ nackTimeout t now (drop i (gapsOf s n))
     timeout-step r timeout left at m er el ea et em = cc (timeout-more)
 
   module _ (max : ℕ) where
@@ -99,11 +100,11 @@ module _ (s : List ℕ) (n i : ℕ) (h : n ≤ i) where
   scan-end b = left-end numberOf (gapWithin b) noGap (gapsOf s n) i (omega (arith, length-gapsOf s n))
 
   pub full-end : (t : NackTimings) (now : ℕ) → fullFrom t now s n i ≡ false
-  full-end t now = keep-end (dueBy t now) full (gapsOf s n) i (omega (arith, length-gapsOf s n))
+  full-end t now = keep-end (due t now) full (gapsOf s n) i (omega (arith, length-gapsOf s n))
 
   pub tried-end : (max : ℕ) → length (leading (tried max) (drop i (gapsOf s n))) ≡ 0
   tried-end max = leading-end (tried max) (gapsOf s n) i (omega (arith, length-gapsOf s n))
 
-  pub timeout-end : (t : NackTimings) (now : ℕ) → None ≡ timeoutBy t now (drop i (gapsOf s n))
-  unfolding timeoutBy
+  pub timeout-end : (t : NackTimings) (now : ℕ) → None ≡ nackTimeout t now (drop i (gapsOf s n))
+  unfolding nackTimeout
   timeout-end t now = let e : drop i (gapsOf s n) ≡ [] = drop-of-length-le (gapsOf s n) {i = i} (omega (arith, length-gapsOf s n)) in rw e

@@ -15,11 +15,11 @@ use Rattle.words.proofs.Records.{Holds, holds-length, holds-at, holds-set}
 use Rattle.config.specs.declared.NackTimings.{NackTimings}
 use Rattle.model.specs.Lists.{keep, some?}
 use Rattle.model.specs.Records.{Gap}
-use Rattle.model.specs.Rules.{nacked}
+use Rattle.model.specs.Rules.{due, nacked, nackedIfDue, nackDue}
 use Rattle.model.specs.Storage.{GAP-WORDS, gapWords, gapOfWords, gapsOf}
 use Rattle.model.proofs.Lists.{length-keep}
 use Rattle.model.proofs.Laid.{gap-wide, gaps-held, gap-coded, length-gapsOf}
-use Rattle.packet_gaps.specs.Gaps.{GapsIn, dueBy, nackedBy, truncated}
+use Rattle.packet_gaps.specs.Gaps.{GapsIn, truncated}
 use Rattle.packet_gaps.proofs.Laws.{noGap, gap-at}
 use Rattle.packet_gaps.proofs.Turns.{or-left, or-right, drop-next, take-next}
 
@@ -63,14 +63,14 @@ none-at q p (x ∷ xs) d (suc i) e h a = go (λ f. none-at q p xs d i f (omega a
 
 -- the gaps with the first i as after the call
 unfoldable pub polled : NackTimings → ℕ → List Gap → ℕ → List Gap
-polled t now gs i = map (nackedBy t now) (take i gs) ++ drop i gs
+polled t now gs i = nackDue t now (take i gs) ++ drop i gs
 
 length-polled : (t : NackTimings) (now : ℕ) (s : List ℕ) (n i : ℕ) → length (polled t now (gapsOf s n) i) ≡ n
 unfolding polled
 length-polled t now s n i =
     let gs = gapsOf s n in
     let lg = length-gapsOf s n in
-    let lm = length-map (take i gs) (nackedBy t now) in
+    let lm = length-map (take i gs) (nackedIfDue t now) in
     simp (length-append, length-drop) (omega (arith, length-take i gs))
 
 pub record Polling (t : NackTimings) (now : ℕ) (s₀ out₀ s out : List ℕ) (n i count : ℕ) : Type 0 where
@@ -79,15 +79,15 @@ pub record Polling (t : NackTimings) (now : ℕ) (s₀ out₀ s out : List ℕ) 
   pub fewer : count ≤ i
   pub room : n ≤ length out₀
   pub same : length s ≡ length s₀
-  pub counted : count ≡ length (keep (dueBy t now) (take i (gapsOf s₀ n)))
-  pub numbers : Writing (map truncated (keep (dueBy t now) (gapsOf s₀ n))) out₀ out (length (keep (dueBy t now) (gapsOf s₀ n))) count
+  pub counted : count ≡ length (keep (due t now) (take i (gapsOf s₀ n)))
+  pub numbers : Writing (map truncated (keep (due t now) (gapsOf s₀ n))) out₀ out (length (keep (due t now) (gapsOf s₀ n))) count
   pub held : s ≡ laid gapWords (length s₀) (polled t now (gapsOf s₀ n) i)
 
 pub polling-none : (t : NackTimings) (now : ℕ) (s₀ out₀ : List ℕ) (n : ℕ) → GapsIn s₀ n → n ≤ length out₀ → Polling t now s₀ out₀ s₀ out₀ n 0 0
 unfolding polled keep
 polling-none t now s₀ out₀ n k r =
     let gs = gapsOf s₀ n in
-    let q = keep (dueBy t now) gs in
+    let q = keep (due t now) gs in
     record {
       kept = k;
       upto = omega arith;
@@ -95,7 +95,7 @@ polling-none t now s₀ out₀ n k r =
       room = r;
       same = refl;
       counted = refl;
-      numbers = writing-none (map truncated q) out₀ (length q) (omega (arith, length-map q truncated)) (omega (arith, length-keep (dueBy t now) gs, length-gapsOf s₀ n));
+      numbers = writing-none (map truncated q) out₀ (length q) (omega (arith, length-map q truncated)) (omega (arith, length-keep (due t now) gs, length-gapsOf s₀ n));
       held = k .held;
     }
 
@@ -114,7 +114,7 @@ module _ (t : NackTimings) (now : ℕ) (s₀ out₀ s out : List ℕ) (n i count
   -- the list that stands in s, around place i
   before : List Gap
   unfolding xs
-  before = map (nackedBy t now) (take i xs)
+  before = nackDue t now (take i xs)
 
   around : polled t now xs i ≡ before ++ (x ∷ drop (i + 1) xs)
   unfolding xs x before polled
@@ -122,7 +122,7 @@ module _ (t : NackTimings) (now : ℕ) (s₀ out₀ s out : List ℕ) (n i count
 
   length-before : length before ≡ i
   unfolding xs before
-  length-before = length-map (take i xs) (nackedBy t now) ∙ length-take-le i xs (omega (arith, inside))
+  length-before = length-map (take i xs) (nackedIfDue t now) ∙ length-take-le i xs (omega (arith, inside))
 
   here : Holds GAP-WORDS (length s₀) gapWords s n (polled t now xs i)
   unfolding xs
@@ -137,26 +137,26 @@ module _ (t : NackTimings) (now : ℕ) (s₀ out₀ s out : List ℕ) (n i count
       let y : x ≡ gapOfWords w₀ = gap-at s₀ n i h in
       e ∙ ap gapOfWords (w ∙ ap gapWords (v ∙ y)) ∙ gap-coded .back (gapOfWords w₀) ∙ sym y
 
-  due-one : dueBy t now x ≡ true → nackedBy t now x ≡ nacked now x
-  unfolding nackedBy
+  due-one : due t now x ≡ true → nackedIfDue t now x ≡ nacked now x
+  unfolding nackedIfDue
   due-one d = rw d
 
-  due-none : dueBy t now x ≡ false → nackedBy t now x ≡ x
-  unfolding nackedBy
+  due-none : due t now x ≡ false → nackedIfDue t now x ≡ x
+  unfolding nackedIfDue
   due-none d = rw d
 
-  next : (y : Gap) → nackedBy t now x ≡ y → before ++ (y ∷ drop (i + 1) xs) ≡ polled t now xs (i + 1)
+  next : (y : Gap) → nackedIfDue t now x ≡ y → before ++ (y ∷ drop (i + 1) xs) ≡ polled t now xs (i + 1)
   unfolding xs x before polled
   next y e = sym (rw (take-next noGap xs i inside, map-append, append-assoc, e))
 
-  pub polling-due : (g y : Gap) (u o : List ℕ) (v : ℕ) → g ≡ getD (gapsOf s₀ n) i noGap → dueBy t now (getD (gapsOf s₀ n) i noGap) ≡ true → y ≡ nacked now g → u ≡ written (GAP-WORDS * i) (gapWords y) s → v ≡ truncated g
+  pub polling-due : (g y : Gap) (u o : List ℕ) (v : ℕ) → g ≡ getD (gapsOf s₀ n) i noGap → due t now (getD (gapsOf s₀ n) i noGap) ≡ true → y ≡ nacked now g → u ≡ written (GAP-WORDS * i) (gapWords y) s → v ≡ truncated g
       → o ≡ set out count v → Polling t now s₀ out₀ u o n (i + 1) (count + 1)
   unfolding xs x
   polling-due g y u o v eg d ey eu ev eo =
-      let p = dueBy t now in
+      let p = due t now in
       let k = keep p (take i xs) in
       let q = keep p xs in
-      let f : nackedBy t now x ≡ y = due-one d ∙ ap (nacked now) (sym eg) ∙ sym ey in
+      let f : nackedIfDue t now x ≡ y = due-one d ∙ ap (nacked now) (sym eg) ∙ sym ey in
       let held : u ≡ laid gapWords (length s₀) (polled t now xs (i + 1)) =
       eu
       ∙ holds-set here i y (gap-wide y) h
@@ -181,7 +181,7 @@ module _ (t : NackTimings) (now : ℕ) (s₀ out₀ s out : List ℕ) (n i count
         held = held;
       }
 
-  pub polling-skip : dueBy t now (getD (gapsOf s₀ n) i noGap) ≡ false → Polling t now s₀ out₀ s out n (i + 1) count
+  pub polling-skip : due t now (getD (gapsOf s₀ n) i noGap) ≡ false → Polling t now s₀ out₀ s out n (i + 1) count
   unfolding xs x
   polling-skip d =
       record {
@@ -190,7 +190,7 @@ module _ (t : NackTimings) (now : ℕ) (s₀ out₀ s out : List ℕ) (n i count
         fewer = omega (arith, c .fewer);
         room = c .room;
         same = c .same;
-        counted = c .counted ∙ ap length (sym (keep-skip (dueBy t now) noGap xs i inside d));
+        counted = c .counted ∙ ap length (sym (keep-skip (due t now) noGap xs i inside d));
         numbers = c .numbers;
         held = c .held ∙ ap (laid gapWords (length s₀)) (around ∙ next x (due-none d));
       }
@@ -199,17 +199,17 @@ module _ (t : NackTimings) (now : ℕ) (s₀ out₀ s out : List ℕ) (n i count
   all : take i (gapsOf s₀ n) ≡ gapsOf s₀ n
   all = take-all i (gapsOf s₀ n) (omega (arith, length-gapsOf s₀ n))
 
-  pub polling-count : count ≡ length (keep (dueBy t now) (gapsOf s₀ n))
-  polling-count = c .counted ∙ ap (λ (l : List Gap). length (keep (dueBy t now) l)) all
+  pub polling-count : count ≡ length (keep (due t now) (gapsOf s₀ n))
+  polling-count = c .counted ∙ ap (λ (l : List Gap). length (keep (due t now) l)) all
 
-  pub polling-gaps : s ≡ laid gapWords (length s₀) (map (nackedBy t now) (gapsOf s₀ n))
+  pub polling-gaps : s ≡ laid gapWords (length s₀) (nackDue t now (gapsOf s₀ n))
   unfolding polled
   polling-gaps =
       let e : drop i (gapsOf s₀ n) ≡ [] = drop-of-length-le (gapsOf s₀ n) {i = i} (omega (arith, length-gapsOf s₀ n)) in
       c .held ∙ rw (all, e, append-nil)
 
-  pub polling-out : out ≡ over (map truncated (keep (dueBy t now) (gapsOf s₀ n))) out₀
+  pub polling-out : out ≡ over (map truncated (keep (due t now) (gapsOf s₀ n))) out₀
   polling-out =
-      let q = keep (dueBy t now) (gapsOf s₀ n) in
+      let q = keep (due t now) (gapsOf s₀ n) in
       writing-all (map truncated q) out₀ out (length q) count (c .numbers) (omega (arith, polling-count))
       ∙ ap (λ (l : List ℕ). over l out₀) (take-all (length q) (map truncated q) (omega (arith, length-map q truncated)))

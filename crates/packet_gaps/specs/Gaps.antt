@@ -1,20 +1,14 @@
 -- 001: what the functions over gaps in storage say, in the terms of the queue's definitions.
 use mathlib.Core.Path.{_≡_}
-use mathlib.Core.Bool.{Bool, cond, _&&_}
-use mathlib.Core.List.{List, [], _∷_}
-use Prim.Native.Nat.{ℕ, _+_, _*_, _-_, _^_, _%_, _≤_, _<_}
-use lib.Dec.{eqb, leb}
+use mathlib.Core.Bool.{Bool, _&&_}
+use mathlib.Core.List.{List}
+use Prim.Native.Nat.{ℕ, _*_, _-_, _^_, _%_, _≤_, _<_}
+use lib.Dec.{leb}
 use lib.ListN.{length}
 use Rattle.words.specs.Blocks.{laid}
-use Rattle.rtp.specs.declared.opt.Opt.{Opt}
-use Rattle.rtp.specs.declared.opt.Opt.the-variants.{None, Some}
-use Rattle.rtx_state.specs.declared.OptRtt.{OptRtt}
-use Rattle.rtx_state.specs.RoundTrip.{sampledRtt}
 use Rattle.config.specs.declared.NackTimings.{NackTimings}
 use Rattle.durations.specs.Seconds.{largest}
 use Rattle.model.specs.Records as Records
-use Rattle.rtp.specs.Opt.{optMin}
-use Rattle.model.specs.Rules.{nacked}
 use Rattle.model.specs.Storage.{GAP-WORDS, gapWords, gapsOf}
 use Rattle.packet_gaps.specs.declared.Gap.{Gap}
 
@@ -27,26 +21,6 @@ pub record GapsIn (words : List ℕ) (n : ℕ) : Type 0 where
 abbrev pub gap : Gap → Records.Gap
 gap g = record { number = g .number .0; detected = g .detected; nacks = g .nacks; nackedAt = g .«nacked_at» }
 
--- the instant of a gap's NACK, if there was just one
-unfoldable pub nackedOnce : Records.Gap → Opt
-nackedOnce g = cond (eqb (g .nacks) 1) (Some (g .nackedAt)) None
-
-unfoldable pub onceOf : List Records.Gap → Opt
-onceOf [] = None
-onceOf (g ∷ gs) = nackedOnce g
-
--- the estimate after a repair of what was NACKed at the instant, if it was
-unfoldable pub sampledAt : ℕ → Opt → OptRtt → OptRtt
-sampledAt now None rtt = rtt
-sampledAt now (Some at) rtt = sampledRtt rtt (now - at)
-
--- when a NACK of a gap is due
-unfoldable pub dueAfter : NackTimings → Records.Gap → ℕ
-dueAfter t g = cond (eqb (g .nacks) 0) (g .detected + t .initial) (g .nackedAt + t .resend)
-
-abbrev pub dueBy : NackTimings → ℕ → Records.Gap → Bool
-dueBy t now g = leb (dueAfter t g) now
-
 -- its instants are no later than the latest of all
 unfoldable pub instantsFit : Records.Gap → Bool
 instantsFit g = leb (g .detected) largest && leb (g .nackedAt) largest
@@ -56,9 +30,6 @@ pub record Small (t : NackTimings) : Type 0 where
   pub initial : t .initial < 2 ^ 54
   pub resend : t .resend < 2 ^ 54
 
-unfoldable pub nackedBy : NackTimings → ℕ → Records.Gap → Records.Gap
-nackedBy t now g = cond (dueBy t now g) (nacked now g) g
-
 -- the 16 bits that a NACK gives
 abbrev pub truncated : Records.Gap → ℕ
 truncated g = g .number % 2 ^ 16
@@ -66,7 +37,3 @@ truncated g = g .number % 2 ^ 16
 -- no further NACK can be counted
 abbrev pub full : Records.Gap → Bool
 full g = leb (2 ^ 32 - 1) (g .nacks)
-
-unfoldable pub timeoutBy : NackTimings → ℕ → List Records.Gap → Opt
-timeoutBy t now [] = None
-timeoutBy t now (g ∷ gs) = optMin (Some (dueAfter t g - now)) (timeoutBy t now gs)

@@ -10,9 +10,9 @@ ghost use Rattle.words.specs.Blocks.{laid};
 ghost use Rattle.words.specs.Order.{ascends};
 ghost use Rattle.model.specs.Lists.{some?};
 ghost use Rattle.model.specs.Records.{gapNumbers};
-ghost use Rattle.model.specs.Rules.{is, gapOf, without, gapsBelow, between, fresh};
+ghost use Rattle.model.specs.Rules.{is, gapOf, without, gapsBelow, between, fresh, nackedOnce, onceOf};
 ghost use Rattle.model.specs.Storage.{GAP-WORDS, gapWords, gapOfWords, gapsOf};
-ghost use Rattle.packet_gaps.specs.Gaps.{GapsIn, gap, nackedOnce, onceOf};
+ghost use Rattle.packet_gaps.specs.Gaps.{GapsIn, gap};
 use rtp::ExtendedSequenceNumber;
 use rtp::opt::Opt;
 

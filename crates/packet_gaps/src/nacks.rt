@@ -1,5 +1,4 @@
-// 001's NACKs: which gaps are due, when the next one is, and which were tried in vain. What is due is said by the timings, which the
-// settings and the round trip give (`Rattle.packet_gaps.proofs.Model`).
+// 001's NACKs: which gaps are due by these timings, when the next one is, and which were tried in vain.
 ghost use mathlib.Core.Path.{_≡_};
 ghost use mathlib.Core.Bool.{true, false};
 ghost use mathlib.Core.List.{map};
@@ -8,9 +7,10 @@ ghost use lib.ListN.{length, drop};
 ghost use Rattle.words.specs.Words.{over};
 ghost use Rattle.words.specs.Blocks.{laid};
 ghost use Rattle.model.specs.Lists.{keep, leading, some?, every?};
-ghost use Rattle.model.specs.Rules.{nacked, tried};
+ghost use Rattle.model.specs.Rules.{dueAt, due, nacked, nackDue, tried};
+ghost use Rattle.model.specs.Poll.{nackTimeout};
 ghost use Rattle.model.specs.Storage.{GAP-WORDS, gapWords, gapsOf};
-ghost use Rattle.packet_gaps.specs.Gaps.{GapsIn, gap, dueAfter, dueBy, nackedBy, truncated, full, timeoutBy, instantsFit, Small};
+ghost use Rattle.packet_gaps.specs.Gaps.{GapsIn, gap, truncated, full, instantsFit, Small};
 use super::Gap;
 use config::NackTimings;
 use rtp::opt::Opt;
@@ -18,7 +18,7 @@ use rtp::opt::Opt;
 fn due_at(g: Gap, t: NackTimings) -> u64
     requires { ⌜ instantsFit (gap g) ≡ true ⌝ }
     requires { ⌜ Small t ⌝ }
-    ensures { λ r. ⌜ r ≡ dueAfter t (gap g) ⌝ }
+    ensures { λ r. ⌜ r ≡ dueAt t (gap g) ⌝ }
 {
     if g.nacks == 0 {
         return g.detected + t.initial;
@@ -29,7 +29,7 @@ fn due_at(g: Gap, t: NackTimings) -> u64
 fn is_due(g: Gap, t: NackTimings, now: u64) -> bool
     requires { ⌜ instantsFit (gap g) ≡ true ⌝ }
     requires { ⌜ Small t ⌝ }
-    ensures { λ r. ⌜ r ≡ dueBy t now (gap g) ⌝ }
+    ensures { λ r. ⌜ r ≡ due t now (gap g) ⌝ }
 {
     due_at(g, t) <= now
 }
@@ -53,7 +53,7 @@ pub fn any_full(s: &[u64], first: usize, n: usize, now: u64, t: NackTimings) -> 
     requires { ⌜ GAP-WORDS * n ≤ length (s .now) ⌝ }
     requires { ⌜ every? instantsFit (gapsOf (s .now) n) ≡ true ⌝ }
     requires { ⌜ Small t ⌝ }
-    ensures { λ r. ⌜ r ≡ some? full (keep (dueBy t now) (drop first (gapsOf (s .entry .now) n))) ⌝ }
+    ensures { λ r. ⌜ r ≡ some? full (keep (due t now) (drop first (gapsOf (s .entry .now) n))) ⌝ }
 {
     let mut i = first;
     while i < n {
@@ -75,11 +75,11 @@ pub fn poll_nacks(s: &mut [u64], n: usize, now: u64, t: NackTimings, out: &mut [
     requires { ⌜ GapsIn (s .now) n ⌝ }
     requires { ⌜ n ≤ length (out .now) ⌝ }
     requires { ⌜ every? instantsFit (gapsOf (s .now) n) ≡ true ⌝ }
-    requires { ⌜ some? full (keep (dueBy t now) (gapsOf (s .now) n)) ≡ false ⌝ }
+    requires { ⌜ some? full (keep (due t now) (gapsOf (s .now) n)) ≡ false ⌝ }
     requires { ⌜ Small t ⌝ }
-    ensures { λ r. ⌜ r ≡ length (keep (dueBy t now) (gapsOf (s .entry .now) n)) ⌝ }
-    ensures { λ r. ⌜ s .exit .now ≡ laid gapWords (length (s .entry .now)) (map (nackedBy t now) (gapsOf (s .entry .now) n)) ⌝ }
-    ensures { λ r. ⌜ out .exit .now ≡ over (map truncated (keep (dueBy t now) (gapsOf (s .entry .now) n))) (out .entry .now) ⌝ }
+    ensures { λ r. ⌜ r ≡ length (keep (due t now) (gapsOf (s .entry .now) n)) ⌝ }
+    ensures { λ r. ⌜ s .exit .now ≡ laid gapWords (length (s .entry .now)) (nackDue t now (gapsOf (s .entry .now) n)) ⌝ }
+    ensures { λ r. ⌜ out .exit .now ≡ over (map truncated (keep (due t now) (gapsOf (s .entry .now) n))) (out .entry .now) ⌝ }
 {
     let mut i = 0;
     let mut count = 0;
@@ -102,7 +102,7 @@ pub fn timeout_nacks(s: &[u64], n: usize, now: u64, t: NackTimings) -> Opt
     requires { ⌜ GAP-WORDS * n ≤ length (s .now) ⌝ }
     requires { ⌜ every? instantsFit (gapsOf (s .now) n) ≡ true ⌝ }
     requires { ⌜ Small t ⌝ }
-    ensures { λ r. ⌜ r ≡ timeoutBy t now (gapsOf (s .entry .now) n) ⌝ }
+    ensures { λ r. ⌜ r ≡ nackTimeout t now (gapsOf (s .entry .now) n) ⌝ }
 {
     let mut timeout = Opt::None;
     let mut i = n;

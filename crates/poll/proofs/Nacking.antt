@@ -14,22 +14,20 @@ use Rattle.refusals.proofs.Laws.{orElse-first, orElse-second, orElse-none, pass
 use Rattle.durations.specs.Seconds.{largest}
 use Rattle.config.specs.declared.Settings.{Settings}
 use Rattle.config.specs.declared.NackTimings.{NackTimings}
-use Rattle.config.specs.Timings.{nackTimings}
 use Rattle.config.specs.Valid.{settingsValid}
 use Rattle.rtx_state.specs.RoundTrip.{optRttInRange}
 use Rattle.model.specs.declared.Queue.{Queue}
 use Rattle.model.specs.declared.Session.{Session}
 use Rattle.model.specs.Lists.{keep, some?, every?}
 use Rattle.model.specs.Records.{Gap, State}
-use Rattle.model.specs.Rules.{nackDue}
-use Rattle.model.specs.Poll.{lose, givenUp, notGivenUp, drained, estimateOf, dueGaps, nackNumbers, nackAll, afterPollNack}
+use Rattle.model.specs.Rules.{due, nackDue}
+use Rattle.model.specs.Poll.{lose, givenUp, notGivenUp, drained, timingsOf, dueGaps, nackNumbers, nackAll, afterPollNack}
 use Rattle.model.specs.Storage.{Stored, GAP-WORDS, gapWords, gapsOf, parse, write}
 use Rattle.model.specs.Calls.{Answer, pollNack, refused, taken, answered, outputOf, outputAfter, nackAnswer}
 use Rattle.model.specs.Table.{refuseIf, sessionSound, outputRefusal, clockRefusal, countRefusal, nackCountRefusal, pollNackRefusal, callRefusal}
 use Rattle.model.specs.Did.{accepted}
 use Rattle.model.proofs.Laid.{length-entriesOf, length-rememberedOf}
-use Rattle.packet_gaps.specs.Gaps.{GapsIn, instantsFit, Small, dueBy, nackedBy, truncated, full}
-use Rattle.packet_gaps.proofs.Model.{due-keep, due-nacked}
+use Rattle.packet_gaps.specs.Gaps.{GapsIn, instantsFit, Small, truncated, full}
 use Rattle.model.specs.Contract.{stored, Does}
 use Rattle.storage.specs.Settled.{Settled}
 use Rattle.poll.specs.Steps.{Leaves, Nacking, dueLeft, nacksRefusal, drainedSession}
@@ -47,16 +45,13 @@ every-drop p (suc n) (x ∷ l) e = every-drop p n l (and-right (p x) (every? p l
 
 -- ---- what is due
 
-module _ (now : ℕ) (q : Queue) (l : List Gap) (t : NackTimings) (et : t ≡ nackTimings (q .config .settings) (estimateOf q)) where
+module _ (now : ℕ) (q : Queue) (l : List Gap) (t : NackTimings) (et : t ≡ timingsOf q) where
   abbrev set : Settings
   set = q .config .settings
 
-  due-left : keep (dueBy t now) (notGivenUp set (set .mode) l) ≡ dueLeft now q l
+  due-left : keep (due t now) (notGivenUp set (set .mode) l) ≡ dueLeft now q l
   unfolding dueLeft
-  due-left = ap (λ (x : NackTimings). keep (dueBy x now) (notGivenUp set (set .mode) l)) et ∙ sym (due-keep set (estimateOf q) now (notGivenUp set (set .mode) l))
-
-  nacked-left : map (nackedBy t now) (notGivenUp set (set .mode) l) ≡ nackDue set (estimateOf q) now (notGivenUp set (set .mode) l)
-  nacked-left = ap (λ (x : NackTimings). map (nackedBy x now) (notGivenUp set (set .mode) l)) et ∙ sym (due-nacked set (estimateOf q) now (notGivenUp set (set .mode) l))
+  due-left = rw et refl
 
   -- 14, where the first k gaps are given up
   module _ (k : ℕ) (ek : k ≡ length (givenUp set (set .mode) l)) (r : ℕ) (er : r ≡ countRefusal ((q .counters .lost + k) ∷ [])) where
@@ -67,9 +62,9 @@ module _ (now : ℕ) (q : Queue) (l : List Gap) (t : NackTimings) (et : t ≡ na
     unfolding nacksRefusal
     lost-refused h = sym (rw lost-is (orElse-first r _ h))
 
-    module _ (z : r ≡ 0) (b : Bool) (eb : b ≡ some? full (keep (dueBy t now) (drop k l))) where
+    module _ (z : r ≡ 0) (b : Bool) (eb : b ≡ some? full (keep (due t now) (drop k l))) where
       full-is : some? full (dueLeft now q l) ≡ b
-      full-is = sym (eb ∙ ap (λ (i : ℕ). some? full (keep (dueBy t now) (drop i l))) ek ∙ ap (λ (x : List Gap). some? full (keep (dueBy t now) x)) (sym (not-given-up set (set .mode) l)) ∙ ap (some? full) due-left)
+      full-is = sym (eb ∙ ap (λ (i : ℕ). some? full (keep (due t now) (drop i l))) ek ∙ ap (λ (x : List Gap). some? full (keep (due t now) x)) (sym (not-given-up set (set .mode) l)) ∙ ap (some? full) due-left)
 
       after-lost : nacksRefusal now q l ≡ nackCountRefusal (dueLeft now q l)
       unfolding nacksRefusal
@@ -84,7 +79,7 @@ module _ (now : ℕ) (q : Queue) (l : List Gap) (t : NackTimings) (et : t ≡ na
       count-passed f = sym (after-lost ∙ rw (full-is, f))
 
 due-gaps : (now : ℕ) (s : State) → dueGaps now (drained now s) ≡ dueLeft now (s .queue) (s .gaps)
-unfolding dueGaps drained dueLeft estimateOf lose
+unfolding dueGaps drained dueLeft lose
 due-gaps now s = refl
 
 -- ---- after `drain`
@@ -101,8 +96,8 @@ module _ (now : ℕ) (s : Session) (old g : List ℕ) (given : ℕ) (t : NackTim
   read-is : gapsOf g (d .gaps) ≡ stay
   read-is = ap (gapsOf g) count-is ∙ gaps-left s old g (h .gaps-in .room) eg
 
-  due-is : keep (dueBy t now) (gapsOf g (d .gaps)) ≡ dueLeft now (s .queue) (gapsOf old (s .gaps))
-  due-is = ap (keep (dueBy t now)) read-is ∙ due-left now (s .queue) (gapsOf old (s .gaps)) t (h .timings-are)
+  due-is : keep (due t now) (gapsOf g (d .gaps)) ≡ dueLeft now (s .queue) (gapsOf old (s .gaps))
+  due-is = ap (keep (due t now)) read-is ∙ due-left now (s .queue) (gapsOf old (s .gaps)) t (h .timings-are)
 
   pub left-held : GapsIn g (d .gaps)
   left-held = rw count-is (left-in s old g (h .gaps-in .room) eg)
@@ -116,20 +111,20 @@ module _ (now : ℕ) (s : Session) (old g : List ℕ) (given : ℕ) (t : NackTim
       let l = gapsOf old (s .gaps) in
       ap (every? instantsFit) (read-is ∙ not-given-up set (set .mode) l) ∙ every-drop instantsFit (length (givenUp set (set .mode) l)) l (h .instants)
 
-  pub left-none-full : some? full (keep (dueBy t now) (gapsOf g (d .gaps))) ≡ false
+  pub left-none-full : some? full (keep (due t now) (gapsOf g (d .gaps))) ≡ false
   left-none-full = ap (some? full) due-is ∙ h .none-full
 
-  pub left-count : (n : ℕ) → n ≡ length (keep (dueBy t now) (gapsOf g (d .gaps))) → length (map truncated (dueLeft now (s .queue) (gapsOf old (s .gaps)))) ≡ n
+  pub left-count : (n : ℕ) → n ≡ length (keep (due t now) (gapsOf g (d .gaps))) → length (map truncated (dueLeft now (s .queue) (gapsOf old (s .gaps)))) ≡ n
   left-count n e = length-map (dueLeft now (s .queue) (gapsOf old (s .gaps))) truncated ∙ sym (e ∙ ap length due-is)
 
-  pub left-words : (g′ : List ℕ) → g′ ≡ laid gapWords (length g) (map (nackedBy t now) (gapsOf g (d .gaps))) → g′ ≡ laid gapWords (length old) (nackDue (s .queue .config .settings) (estimateOf (s .queue)) now stay)
+  pub left-words : (g′ : List ℕ) → g′ ≡ laid gapWords (length g) (nackDue t now (gapsOf g (d .gaps))) → g′ ≡ laid gapWords (length old) (nackDue (timingsOf (s .queue)) now stay)
   left-words g′ e =
       e
-      ∙ ap (λ (n : ℕ). laid gapWords n (map (nackedBy t now) (gapsOf g (d .gaps)))) (same-long s old g (h .gaps-in .room) eg)
-      ∙ ap (λ (l : List Gap). laid gapWords (length old) (map (nackedBy t now) l)) read-is
-      ∙ ap (laid gapWords (length old)) (nacked-left now (s .queue) (gapsOf old (s .gaps)) t (h .timings-are))
+      ∙ ap (λ (n : ℕ). laid gapWords n (nackDue t now (gapsOf g (d .gaps)))) (same-long s old g (h .gaps-in .room) eg)
+      ∙ ap (λ (l : List Gap). laid gapWords (length old) (nackDue t now l)) read-is
+      ∙ ap (λ (x : NackTimings). laid gapWords (length old) (nackDue x now stay)) (h .timings-are)
 
-  pub left-out : (out o : List ℕ) → o ≡ over (map truncated (keep (dueBy t now) (gapsOf g (d .gaps)))) out → o ≡ over (map truncated (dueLeft now (s .queue) (gapsOf old (s .gaps)))) out
+  pub left-out : (out o : List ℕ) → o ≡ over (map truncated (keep (due t now) (gapsOf g (d .gaps)))) out → o ≡ over (map truncated (dueLeft now (s .queue) (gapsOf old (s .gaps)))) out
   left-out out o e = e ∙ ap (λ (l : List Gap). over (map truncated l) out) due-is
 
 -- ---- the call
@@ -142,9 +137,9 @@ module _ (now : ℕ) (m : Stored) (h : Settled m) (out : List ℕ) where
   set′ = m .session .queue .config .settings
 
   nack-leaves : (d : Session) (g : List ℕ) → d ≡ drainedSession now (m .session) gaps
-      → g ≡ laid gapWords (length (m .storage .gaps)) (nackDue set′ (estimateOf (m .session .queue)) now (notGivenUp set′ (set′ .mode) gaps))
+      → g ≡ laid gapWords (length (m .storage .gaps)) (nackDue (timingsOf (m .session .queue)) now (notGivenUp set′ (set′ .mode) gaps))
       → Leaves (afterPollNack now (parse m)) (m .storage) (stored d (m .storage .entries) (m .storage .payloads) g (m .storage .remembered))
-  unfolding afterPollNack nackAll nackDue drainedSession drained parse write estimateOf lose
+  unfolding afterPollNack nackAll drainedSession drained parse write lose
   nack-leaves d g ed eg =
       let k = holding m h in
       let t = m .storage in
@@ -167,7 +162,7 @@ module _ (now : ℕ) (m : Stored) (h : Settled m) (out : List ℕ) where
   nack-accepted : (d : Session) (a : Answer) (g o : List ℕ)
       → d ≡ drainedSession now (m .session) gaps
       → a ≡ nackAnswer (map truncated (dueLeft now (m .session .queue) gaps))
-      → g ≡ laid gapWords (length (m .storage .gaps)) (nackDue set′ (estimateOf (m .session .queue)) now (notGivenUp set′ (set′ .mode) gaps))
+      → g ≡ laid gapWords (length (m .storage .gaps)) (nackDue (timingsOf (m .session .queue)) now (notGivenUp set′ (set′ .mode) gaps))
       → o ≡ over (map truncated (dueLeft now (m .session .queue) gaps)) out
       → accepted (pollNack now out) (parse m) ≡ record { answer = a; stored = stored d (m .storage .entries) (m .storage .payloads) g (m .storage .remembered); output = o }
   unfolding accepted answered taken outputAfter nackNumbers
@@ -188,7 +183,7 @@ module _ (now : ℕ) (m : Stored) (h : sessionSound m ≡ true) (e p g r : List 
   nacking : (given : ℕ) (t : NackTimings)
       → q′ .clock ≤ largest
       → given ≡ length (givenUp (q′ .config .settings) (q′ .config .settings .mode) (parse m .gaps))
-      → t ≡ nackTimings (q′ .config .settings) (estimateOf q′)
+      → t ≡ timingsOf q′
       → Small t
       → nacksRefusal now q′ (parse m .gaps) ≡ 0
       → Nacking now (m .session) g given t
@@ -217,7 +212,7 @@ module _ (now : ℕ) (m : Stored) (out : List ℕ) where
   listed = gapsOf (m .storage .gaps) (m .session .gaps)
 
   checks : callRefusal (pollNack now out) (parse m) ≡ orElse (outputRefusal places out) (orElse (clockRefusal q now) (nacksRefusal now q listed))
-  unfolding callRefusal pollNackRefusal nacksRefusal dueGaps drained dueLeft estimateOf lose parse
+  unfolding callRefusal pollNackRefusal nacksRefusal dueGaps drained dueLeft lose parse
   checks = refl
 
   module _ (r : ℕ) (e : r ≡ earlyRefusal places out now m) where
@@ -250,7 +245,7 @@ module _ (now : ℕ) (m : Stored) (out : List ℕ) where
 
         -- the storage that is settled
         module _ (n : b ≡ 0) (e′ p g r′ : List ℕ) (w : stored (m .session) e′ p g r′ ≡ write (parse m)) where
-          pub nack-taken : (given : ℕ) (t : NackTimings) → given ≡ length (givenUp (q .config .settings) (q .config .settings .mode) listed) → t ≡ nackTimings (q .config .settings) (estimateOf q) → Small t
+          pub nack-taken : (given : ℕ) (t : NackTimings) → given ≡ length (givenUp (q .config .settings) (q .config .settings .mode) listed) → t ≡ timingsOf q → Small t
               → Nacking now (m .session) g given t × (m .session .gaps ≤ length out)
           unfolding parse
           nack-taken given t eg et small =
@@ -260,7 +255,7 @@ module _ (now : ℕ) (m : Stored) (out : List ℕ) where
           pub nack-done : (d : Session) (a : Answer) (g′ o : List ℕ)
               → d ≡ drainedSession now (m .session) (gapsOf g (m .session .gaps))
               → a ≡ nackAnswer (map truncated (dueLeft now q (gapsOf g (m .session .gaps))))
-              → g′ ≡ laid gapWords (length g) (nackDue (q .config .settings) (estimateOf q) now (notGivenUp (q .config .settings) (q .config .settings .mode) (gapsOf g (m .session .gaps))))
+              → g′ ≡ laid gapWords (length g) (nackDue (timingsOf q) now (notGivenUp (q .config .settings) (q .config .settings .mode) (gapsOf g (m .session .gaps))))
               → o ≡ over (map truncated (dueLeft now q (gapsOf g (m .session .gaps)))) out
               → Does (pollNack now out) m a (stored d e′ p g′ r′) o
           nack-done d a g′ o hd ha hg ho =

@@ -9,13 +9,12 @@ use Rattle.words.specs.Order.{ascends}
 use Rattle.refusals.specs.Refusals.{orElse}
 use Rattle.config.specs.declared.NackTimings.{NackTimings}
 use Rattle.config.specs.declared.RtpInboundQueueMode.{RtpInboundQueueMode}
-use Rattle.config.specs.Timings.{nackTimings}
 use Rattle.model.specs.declared.Queue.{Queue}
 use Rattle.model.specs.declared.Session.{Session}
 use Rattle.model.specs.Records.{Entry, Gap, State, gapNumbers, withClock}
 use Rattle.model.specs.Rules.{MAX-LOST-NACKED, due}
 use Rattle.model.specs.Lists.{keep, some?, every?}
-use Rattle.model.specs.Poll.{lose, givenUp, notGivenUp, ready, front, lostBelow, estimateOf}
+use Rattle.model.specs.Poll.{lose, givenUp, notGivenUp, ready, front, lostBelow, timingsOf}
 use Rattle.model.specs.Storage.{Storage, Stored, REMEMBERED-WORDS, entryWords, payloadBytes, gapWords, rememberedWords, gapsOf, write}
 use Rattle.model.specs.Table.{countRefusal, nackCountRefusal}
 use Rattle.packet_gaps.specs.Gaps.{GapsIn, instantsFit, Small, full}
@@ -66,7 +65,7 @@ dueFor now s =
 
 -- the gaps that are NACKed once those given up are out
 unfoldable pub dueLeft : ℕ → Queue → List Gap → List Gap
-dueLeft now q gaps = keep (due (q .config .settings) (estimateOf q) now) (notGivenUp (q .config .settings) (q .config .settings .mode) gaps)
+dueLeft now q gaps = keep (due (timingsOf q) now) (notGivenUp (q .config .settings) (q .config .settings .mode) gaps)
 
 -- 14 of `poll_nack`: the numbers lost, then a NACK count
 unfoldable pub nacksRefusal : ℕ → Queue → List Gap → ℕ
@@ -78,7 +77,7 @@ nacksRefusal now q gaps =
 pub record Nacking (now : ℕ) (s : Session) (gaps : List ℕ) (given : ℕ) (timings : NackTimings) : Type 0 where
   pub gaps-in : GapsIn gaps (s .gaps)
   pub given-are : given ≡ length (givenUp (s .queue .config .settings) (s .queue .config .settings .mode) (gapsOf gaps (s .gaps)))
-  pub timings-are : timings ≡ nackTimings (s .queue .config .settings) (estimateOf (s .queue))
+  pub timings-are : timings ≡ timingsOf (s .queue)
   pub small : Small timings
   pub lost-fits : s .queue .counters .lost + s .gaps < 2 ^ 64
   pub instants : every? instantsFit (gapsOf gaps (s .gaps)) ≡ true

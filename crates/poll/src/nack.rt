@@ -6,10 +6,9 @@ ghost use Prim.Native.Nat.{ℕ, _+_, _*_, _≤_, _<_, _^_};
 ghost use lib.ListN.{length};
 ghost use Rattle.words.specs.Blocks.{laid};
 ghost use Rattle.words.specs.Words.{over};
-ghost use Rattle.config.specs.Timings.{nackTimings};
 ghost use Rattle.model.specs.Lists.{every?};
 ghost use Rattle.model.specs.Rules.{nackDue};
-ghost use Rattle.model.specs.Poll.{givenUp, notGivenUp, estimateOf};
+ghost use Rattle.model.specs.Poll.{givenUp, notGivenUp, timingsOf};
 ghost use Rattle.model.specs.Calls as Calls;
 ghost use Rattle.model.specs.Storage.{GAP-WORDS, gapWords, gapsOf};
 ghost use Rattle.packet_gaps.specs.Gaps.{truncated, instantsFit, Small};
@@ -35,7 +34,7 @@ pub struct PolledNack {
 fn count_refusal(s: Session, gaps: &[u64], given: usize, timings: NackTimings, instant: u64) -> u64
     requires { ⌜ GAP-WORDS * s .gaps ≤ length (now gaps) ⌝ }
     requires { ⌜ given ≡ length (givenUp (s .queue .config .settings) (s .queue .config .settings .mode) (gapsOf (now gaps) (s .gaps))) ⌝ }
-    requires { ⌜ timings ≡ nackTimings (s .queue .config .settings) (estimateOf (s .queue)) ⌝ }
+    requires { ⌜ timings ≡ timingsOf (s .queue) ⌝ }
     requires { ⌜ Small timings ⌝ }
     requires { ⌜ every? instantsFit (gapsOf (now gaps) (s .gaps)) ≡ true ⌝ }
     requires { ⌜ s .queue .counters .lost + s .gaps < 2 ^ 64 ⌝ }
@@ -73,7 +72,7 @@ fn accept(
     requires { ⌜ s .gaps ≤ length (now out) ⌝ }
     ensures { λ r. ⌜ r .session ≡ drainedSession instant s (gapsOf (now (gaps .entry)) (s .gaps)) ⌝ }
     ensures { λ r. ⌜ Answers.nackAnswer (r .answer) ≡ Calls.nackAnswer (map truncated (dueLeft instant (s .queue) (gapsOf (now (gaps .entry)) (s .gaps)))) ⌝ }
-    ensures { λ r. ⌜ now (gaps .exit) ≡ laid gapWords (length (now (gaps .entry))) (nackDue (s .queue .config .settings) (estimateOf (s .queue)) instant (notGivenUp (s .queue .config .settings) (s .queue .config .settings .mode) (gapsOf (now (gaps .entry)) (s .gaps)))) ⌝ }
+    ensures { λ r. ⌜ now (gaps .exit) ≡ laid gapWords (length (now (gaps .entry))) (nackDue (timingsOf (s .queue)) instant (notGivenUp (s .queue .config .settings) (s .queue .config .settings .mode) (gapsOf (now (gaps .entry)) (s .gaps)))) ⌝ }
     ensures { λ r. ⌜ now (out .exit) ≡ over (map truncated (dueLeft instant (s .queue) (gapsOf (now (gaps .entry)) (s .gaps)))) (now (out .entry)) ⌝ }
 {
     let drained = super::drain(s, gaps, given, instant);

@@ -13,15 +13,14 @@ use Rattle.rtp.specs.declared.opt.Opt.the-variants.{None, Some}
 use Rattle.refusals.specs.Refusals.{ENTRIES-FULL, orElse}
 use Rattle.refusals.proofs.Laws.{orElse-none}
 use Rattle.rtp_packet.specs.Datagram.{LARGEST-PAYLOAD}
-use Rattle.rtx_state.specs.declared.RtxState.{RtxState}
-use Rattle.rtx_state.specs.Repair.{updateRtt, recordTooLate, recordRedundant, recordInTime}
+use Rattle.rtx_state.specs.Repair.{recordTooLate, recordRedundant, recordInTime}
 use Rattle.packet_loss.specs.Loss.{recordLost}
 use Rattle.model.specs.declared.Queue.{Queue}
 use Rattle.model.specs.declared.Session.{Session}
 use Rattle.model.specs.Lists.{keep, some?}
 use Rattle.model.specs.Records.{Entry, Remembered, State, returnedOf, withClock, withRtx, withLoss}
-use Rattle.model.specs.Rules.{is, gapOf, without, isOf, forgetFirst}
-use Rattle.model.specs.Push.{passed, insertSorted, Fate, tooLate, recovered, redundant, repairFate, afterFate}
+use Rattle.model.specs.Rules.{is, gapOf, without, onceOf, instantOf, isOf, forgetFirst}
+use Rattle.model.specs.Push.{passed, insertSorted, Fate, tooLate, recovered, redundant, repairFate, sampled, afterFate}
 use Rattle.model.specs.Storage.{Stored, ENTRY-WORDS, PAYLOAD-BYTES, arrivalWord, entryWords, payloadBytes, gapWords, rememberedWords, entryPlaces, entriesOf, gapsOf, rememberedOf, entriesLaid, payloadsLaid, gapsLaid, rememberedLaid, parse, write}
 use Rattle.model.specs.Calls as Calls
 use Rattle.model.specs.Calls.{Answer}
@@ -29,16 +28,11 @@ use Rattle.model.specs.Table.{countRefusal, refuseIf, fateValues, noPlace, sess
 use Rattle.model.proofs.Lists.{length-insert}
 use Rattle.model.proofs.Laid.{length-entriesOf, length-rememberedOf}
 use Rattle.model.proofs.SoundQueue.{not-refused}
-use Rattle.packet_gaps.specs.Gaps as Gaps
-use Rattle.packet_gaps.specs.Gaps.{onceOf}
-use Rattle.packet_gaps.proofs.Model.{repair-sample}
-use Rattle.lost_nacked.specs.Remembered.{instantOf}
-use Rattle.lost_nacked.proofs.Model.{late-sample}
 use Rattle.entries.specs.declared.Entry as Row
 use Rattle.entries.specs.Entries.{entry, Incoming}
 use Rattle.session.specs.declared.rtx.Fate as Code
 use Rattle.session.specs.declared.rtx.Fate.the-variants as Variant
-use Rattle.session.specs.Place.{fate, sampledAt, raisedBy}
+use Rattle.session.specs.Place.{fate, raisedBy}
 use Rattle.model.specs.Contract.{stored}
 use Rattle.storage.specs.Settled.{Settled}
 use Rattle.push.specs.Media.{Counts}
@@ -46,14 +40,6 @@ use Rattle.push.specs.Repair.{entriesRefusal, fateRefusal, leftAfter, di
 use Rattle.storage.proofs.Settled.{Ready, holding, settled-of}
 use Rattle.push.proofs.Placing.{length-filled}
 use Rattle.push.proofs.Media.{written-as}
-
--- ---- the sample
-
-sample-is : (now : ℕ) (o : Opt) (r : RtxState)
-    → record { rtt = Gaps.sampledAt now o (r .rtt); «received_in_time» = r .«received_in_time»; «received_too_late» = r .«received_too_late»; «received_redundant» = r .«received_redundant»; «bytes_received» = r .«bytes_received» } ≡ sampledAt now o r
-unfolding Gaps.sampledAt sampledAt updateRtt
-sample-is now None r = refl
-sample-is now (Some i) r = refl
 
 -- ---- a remembered number that goes
 
@@ -98,7 +84,7 @@ module _ (instant : ℕ) (e : Row.Entry) (m : Stored) (s : Settled m) where
       omega (arith, left-some (length held) (length (forgetFirst (e .number .0) held)) (instantOf (keep (isOf (e .number .0)) held)) i (sym h ∙ g) (forget-left (e .number .0) held))
 
   pub late-is : (q : Queue) (o : Opt) (k : ℕ) (rs : List ℕ) → o ≡ instantOf (keep (isOf (e .number .0)) held)
-      → q ≡ withRtx (withClock (m .session .queue) instant) (sampledAt instant o (recordTooLate (m .session .queue .rtx)))
+      → q ≡ withRtx (withClock (m .session .queue) instant) (sampled instant o (recordTooLate (m .session .queue .rtx)))
       → k ≡ leftAfter (m .session .remembered) o → rs ≡ laid rememberedWords (length (m .storage .remembered)) (forgetFirst (e .number .0) held)
       → (payload : List ℕ) → stored (record { queue = q; entries = m .session .entries; gaps = m .session .gaps; remembered = k }) (m .storage .entries) (m .storage .payloads) (m .storage .gaps) rs ≡ write (afterFate instant (entry e payload) tooLate (parse m))
   unfolding afterFate parse write laid rememberedLaid recordTooLate
@@ -106,7 +92,7 @@ module _ (instant : ℕ) (e : Row.Entry) (m : Stored) (s : Settled m) where
       let n : length held ≡ m .session .remembered = length-rememberedOf (m .storage .remembered) (m .session .remembered) in
       let left : k ≡ length (forgetFirst (e .number .0) held) = hk ∙ ap (leftAfter (m .session .remembered)) ho ∙ ap (λ (j : ℕ). leftAfter j (instantOf (keep (isOf (e .number .0)) held))) (sym n) ∙ left-is (length held) (length (forgetFirst (e .number .0) held)) (instantOf (keep (isOf (e .number .0)) held)) (forget-left (e .number .0) held) in
       written-as (afterFate instant (entry e payload) tooLate (parse m)) (record { queue = q; entries = m .session .entries; gaps = m .session .gaps; remembered = k }) (m .storage .entries) (m .storage .payloads) (m .storage .gaps) rs
-      (hq ∙ rw (ho, late-sample, ← sample-is)) (ap (λ (y : Stored). y .session .entries) (s .held)) (ap (λ (y : Stored). y .session .gaps) (s .held)) left
+      (hq ∙ rw ho) (ap (λ (y : Stored). y .session .entries) (s .held)) (ap (λ (y : Stored). y .session .gaps) (s .held)) left
       (ap (λ (y : Stored). y .storage .entries) (s .held)) (ap (λ (y : Stored). y .storage .payloads) (s .held)) (ap (λ (y : Stored). y .storage .gaps) (s .held)) (hr ∙ rw (ready-late .lengths .remembered))
 
   -- ---- redundant
@@ -148,7 +134,7 @@ module _ (instant : ℕ) (e : Row.Entry) (payload : List ℕ) (m : Stored) (f : 
   room-left = (omega (arith, ready-repair .lengths .entries, place-left), omega (arith, ready-repair .lengths .payloads, place-left))
 
   pub recovered-is : (q : Queue) (o : Opt) (es ps gs : List ℕ) → o ≡ onceOf (gapOf (e .number .0) (gapsOf (m .storage .gaps) (m .session .gaps)))
-      → q ≡ withLoss (withRtx (withClock (m .session .queue) instant) (sampledAt instant o (recordInTime (m .session .queue .rtx) (e .size)))) (recordLost (m .session .queue .loss) 1)
+      → q ≡ withLoss (withRtx (withClock (m .session .queue) instant) (sampled instant o (recordInTime (m .session .queue .rtx) (e .size)))) (recordLost (m .session .queue .loss) 1)
       → es ≡ laid entryWords (length (m .storage .entries)) (insertSorted x (entriesOf (m .storage .entries) (m .storage .payloads) (m .session .entries)))
       → ps ≡ laid payloadBytes (length (m .storage .payloads)) (insertSorted x (entriesOf (m .storage .entries) (m .storage .payloads) (m .session .entries)))
       → gs ≡ laid gapWords (length (m .storage .gaps)) (without (e .number .0) (gapsOf (m .storage .gaps) (m .session .gaps)))
@@ -159,7 +145,7 @@ module _ (instant : ℕ) (e : Row.Entry) (payload : List ℕ) (m : Stored) (f : 
       let old = entriesOf (m .storage .entries) (m .storage .payloads) (m .session .entries) in
       let n : m .session .entries + 1 ≡ length (insertSorted x old) = omega (arith, length-insert x old, length-entriesOf (m .storage .entries) (m .storage .payloads) (m .session .entries)) in
       written-as (afterFate instant x recovered (parse m)) (record { queue = q; entries = m .session .entries + 1; gaps = m .session .gaps - 1; remembered = m .session .remembered }) es ps gs (m .storage .remembered)
-      (hq ∙ rw (ho, repair-sample, f .incoming .size, ← sample-is)) n (sym (length-filled (m .storage .gaps) (m .session .gaps) (e .number .0) (ready-repair .gaps-ascend) open-gap .1)) (ap (λ (y : Stored). y .session .remembered) (f .settled .held))
+      (hq ∙ rw (ho, f .incoming .size)) n (sym (length-filled (m .storage .gaps) (m .session .gaps) (e .number .0) (ready-repair .gaps-ascend) open-gap .1)) (ap (λ (y : Stored). y .session .remembered) (f .settled .held))
       (he ∙ rw (l .entries)) (hp ∙ rw (l .payloads)) (hg ∙ rw (l .gaps)) (ap (λ (y : Stored). y .storage .remembered) (f .settled .held))
 
 -- ---- 14, then 13

@@ -17,13 +17,12 @@ use Rattle.config.specs.declared.NackTimings.{NackTimings}
 use Rattle.config.specs.declared.RtpInboundQueueMode.{RtpInboundQueueMode}
 use Rattle.config.specs.declared.RtpInboundQueueMode.the-variants.{Passthrough, SortedQueue}
 use Rattle.config.specs.declared.Settings.{Settings}
-use Rattle.config.specs.Timings.{nackTimings}
 use Rattle.config.specs.Valid.{settingsValid}
 use Rattle.model.specs.declared.LastReceived.{LastReceived}
 use Rattle.model.specs.declared.LastReceived.the-variants as LastReceived
 use Rattle.model.specs.Records.{Entry}
 use Rattle.model.specs.Lists.{every?}
-use Rattle.model.specs.Poll.{estimateOf, receiveTimeout, nackTimeout}
+use Rattle.model.specs.Poll.{timingsOf, receiveTimeout, nackTimeout}
 use Rattle.model.specs.Valid.{lastSound}
 use Rattle.model.specs.Storage.{Stored, ENTRY-WORDS, PAYLOAD-BYTES, GAP-WORDS, entryOf, entriesOf, gapsOf, parse, write}
 use Rattle.model.specs.Calls as Calls
@@ -32,8 +31,7 @@ use Rattle.model.specs.Table.{sessionSound, sessionRefusal, clockRefusal, callR
 use Rattle.model.specs.Did.{accepted}
 use Rattle.model.proofs.Lists.{Each, each-first, each-imp}
 use Rattle.model.proofs.SoundQueue.{clock-of, last-later}
-use Rattle.packet_gaps.specs.Gaps.{instantsFit, timeoutBy}
-use Rattle.packet_gaps.proofs.Model.{timeout-is}
+use Rattle.packet_gaps.specs.Gaps.{instantsFit}
 use Rattle.model.specs.Contract.{stored, Does}
 use Rattle.storage.proofs.Settled.{checked, Ready, ready, settings-in, instants, accepted-is, passed-16}
 
@@ -127,12 +125,11 @@ module _ (m : Stored) (now : ℕ) (h : orElse (sessionRefusal m) (clockRefusal (
         let k = settled-is in
         (k .gaps-in .room, ap (every? instantsFit) (k .gaps-are) ∙ instants m (k .checked) (omega (arith, clock)))
 
-    pub nacked-timeout : (t : Opt) (n : NackTimings) → n ≡ nackTimings (m .session .queue .config .settings) (estimateOf (m .session .queue)) → t ≡ timeoutBy n now (gapsOf g (m .session .gaps))
+    pub nacked-timeout : (t : Opt) (n : NackTimings) → n ≡ timingsOf (m .session .queue) → t ≡ nackTimeout n now (gapsOf g (m .session .gaps))
         → Does (Calls.timeoutNack now) m (Calls.timeout t) (stored (m .session) e p g r) []
     unfolding taken outputAfter answered refusal callRefusal parse
     nacked-timeout t n en f =
         let q = m .session .queue in
-        let a : nackTimeout (q .config .settings) (estimateOf q) now (parse m .gaps) ≡ t =
-        timeout-is (q .config .settings) (estimateOf q) now (parse m .gaps)
-        ∙ sym (f ∙ ap (λ (x : NackTimings). timeoutBy x now (gapsOf g (m .session .gaps))) en ∙ ap (timeoutBy (nackTimings (q .config .settings) (estimateOf q)) now) (settled-is .gaps-are)) in
+        let a : nackTimeout (timingsOf q) now (parse m .gaps) ≡ t =
+        sym (f ∙ ap (λ (x : NackTimings). nackTimeout x now (gapsOf g (m .session .gaps))) en ∙ ap (nackTimeout (timingsOf q) now) (settled-is .gaps-are)) in
         left-as-is (Calls.timeoutNack now) m (stored (m .session) e p g r) (Calls.timeout t) 0 (sym h) refl refl refl (ap Calls.timeout a) w

@@ -5,13 +5,12 @@ use Prim.Native.Nat.{ℕ, _≤_}
 use lib.Dec.{T, leb, leb→le}
 use lib.Ieee.Fits.{and-l, and-r}
 use Rattle.durations.specs.Seconds.{largest}
+use Rattle.rtx_state.specs.declared.OptRtt.{OptRtt}
 use Rattle.rtx_state.specs.RoundTrip.{optRttInRange}
 use Rattle.model.specs.declared.LastReceived.{LastReceived}
 use Rattle.model.specs.declared.LastReceived.the-variants.{Some}
-use Rattle.model.specs.declared.Queue.{Queue}
 use Rattle.model.specs.declared.Received.{Received}
 use Rattle.model.specs.Rules.{estimateIn}
-use Rattle.model.specs.Poll.{estimateOf}
 use Rattle.model.specs.Valid.{lastSound}
 
 some-in : (clock : ℕ) (r : Received) → T (lastSound clock (Some r)) → (r .instant ≤ clock) × (r .timestamp .0 ≤ largest)
@@ -25,10 +24,7 @@ some-in clock r t =
 pub last-in : (clock : ℕ) (l : LastReceived) (r : Received) → l ≡ Some r → T (lastSound clock l) → (r .instant ≤ clock) × (r .timestamp .0 ≤ largest)
 last-in clock l r e t = some-in clock r (subst (λ (x : LastReceived). T (lastSound clock x)) e t)
 
-pub estimate-in : (q : Queue) → T (optRttInRange (q .rtx .rtt)) → T (optRttInRange (estimateOf q))
-unfolding estimateOf estimateIn optRttInRange
-estimate-in q t = go (q .config .senders .«has_rtx»)
-  where
-    go : (b : Bool) → T (optRttInRange (estimateIn b (q .rtx .rtt)))
-    go true = t
-    go false = tt
+pub estimate-in : (rtx : Bool) (rtt : OptRtt) → T (optRttInRange rtt) → T (optRttInRange (estimateIn rtx rtt))
+unfolding estimateIn optRttInRange
+estimate-in true rtt t = t
+estimate-in false rtt t = tt

@@ -1,10 +1,7 @@
--- Where a media number stands and what becomes of a repair: for each case of the code's enums the case of `model`; and the sample that a repair yields.
+-- Where a media number stands and what becomes of a repair: for each case of the code's enums the case of `model`.
 use mathlib.Core.List.{List, [], _∷_}
-use Prim.Native.Nat.{ℕ, _+_, _-_}
-use Rattle.rtp.specs.declared.opt.Opt.{Opt}
-use Rattle.rtp.specs.declared.opt.Opt.the-variants as Opt
+use Prim.Native.Nat.{ℕ, _+_}
 use Rattle.rtx_state.specs.declared.RtxState.{RtxState}
-use Rattle.rtx_state.specs.Repair.{updateRtt}
 use Rattle.model.specs.Rules as Rules
 use Rattle.model.specs.Push as Push
 use Rattle.session.specs.declared.push.Place.{Place}
@@ -23,11 +20,6 @@ unfoldable pub fate : Fate → Push.Fate
 fate Fate.TooLate = Push.tooLate
 fate Fate.Recovered = Push.recovered
 fate Fate.Redundant = Push.redundant
-
--- the repair state with one more sample, if the number was NACKed just once, at this instant
-unfoldable pub sampledAt : ℕ → Opt → RtxState → RtxState
-sampledAt now Opt.None s = s
-sampledAt now (Opt.Some i) s = updateRtt s (now - i)
 
 -- `fateValues` of `model`, by the size of the payload
 unfoldable pub raisedBy : RtxState → ℕ → Push.Fate → List ℕ

@@ -2,17 +2,17 @@
 ghost use mathlib.Core.Path.{_≡_};
 ghost use lib.Dec.{T};
 ghost use Rattle.rtx_state.specs.RoundTrip.{optRttInRange};
-ghost use Rattle.config.specs.Timings.{nackTimings};
 ghost use Rattle.config.specs.Valid.{settingsValid};
 ghost use Rattle.packet_gaps.specs.Gaps.{Small};
-ghost use Rattle.model.specs.Poll as Poll;
+ghost use Rattle.model.specs.Rules.{estimateIn};
+ghost use Rattle.model.specs.Poll.{timingsOf};
 use config::NackTimings;
 use model::Queue;
 use rtx_state::OptRtt;
 
 // The measured round trip; a session without RTX has none.
 fn estimate_of(q: Queue) -> OptRtt
-    ensures { λ r. ⌜ r ≡ Poll.estimateOf q ⌝ }
+    ensures { λ r. ⌜ r ≡ estimateIn (q .config .senders .«has_rtx») (q .rtx .rtt) ⌝ }
 {
     let config = q.config;
     let rtx = q.rtx;
@@ -26,7 +26,7 @@ fn estimate_of(q: Queue) -> OptRtt
 // After how long a gap is NACKed, first and again.
 pub fn nack_timings(q: Queue) -> NackTimings
     requires { ⌜ T (settingsValid (q .config .settings)) × T (optRttInRange (q .rtx .rtt)) ⌝ }
-    ensures { λ r. ⌜ r ≡ nackTimings (q .config .settings) (Poll.estimateOf q) ⌝ }
+    ensures { λ r. ⌜ r ≡ timingsOf q ⌝ }
     ensures { λ r. ⌜ Small r ⌝ }
 {
     let config = q.config;

@@ -6,6 +6,7 @@ ghost use Rattle.durations.specs.Seconds.{largest};
 ghost use Rattle.rtx_state.specs.Repair as Repair;
 ghost use Rattle.packet_loss.specs.Loss as Loss;
 ghost use Rattle.model.specs.Records as Records;
+ghost use Rattle.model.specs.Push as Push;
 ghost use Rattle.model.specs.Table as Table;
 ghost use Rattle.session.specs.Place as Spec;
 use durations::LARGEST;
@@ -24,7 +25,7 @@ pub enum Fate {
 
 // One more sample, if the number was NACKed just once, at this instant.
 fn sampled(state: RtxState, now: u64, nacked: Opt) -> RtxState
-    ensures { λ r. ⌜ r ≡ Spec.sampledAt now nacked state ⌝ }
+    ensures { λ r. ⌜ r ≡ Push.sampled now nacked state ⌝ }
 {
     match nacked {
         Opt::None => state,
@@ -34,7 +35,7 @@ fn sampled(state: RtxState, now: u64, nacked: Opt) -> RtxState
 
 // The queue after a repair that came too late.
 pub fn too_late(q: Queue, now: u64, nacked: Opt) -> Queue
-    ensures { λ r. ⌜ r ≡ Records.withRtx (Records.withClock q now) (Spec.sampledAt now nacked (Repair.recordTooLate (q .rtx))) ⌝ }
+    ensures { λ r. ⌜ r ≡ Records.withRtx (Records.withClock q now) (Push.sampled now nacked (Repair.recordTooLate (q .rtx))) ⌝ }
 {
     let rtx = sampled(q.rtx.record_too_late(), now, nacked);
     let mut next = q;
@@ -56,7 +57,7 @@ pub fn redundant(q: Queue, now: u64) -> Queue
 
 // The queue after a repair that filled its gap.
 pub fn recovered(q: Queue, now: u64, nacked: Opt, size: u64) -> Queue
-    ensures { λ r. ⌜ r ≡ Records.withLoss (Records.withRtx (Records.withClock q now) (Spec.sampledAt now nacked (Repair.recordInTime (q .rtx) size))) (Loss.recordLost (q .loss) 1) ⌝ }
+    ensures { λ r. ⌜ r ≡ Records.withLoss (Records.withRtx (Records.withClock q now) (Push.sampled now nacked (Repair.recordInTime (q .rtx) size))) (Loss.recordLost (q .loss) 1) ⌝ }
 {
     let rtx = sampled(q.rtx.record_in_time(size), now, nacked);
     let loss = q.loss.record_lost(1);

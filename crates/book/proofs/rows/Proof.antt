@@ -11,6 +11,7 @@ use Rattle.packet_loss.specs.Loss.{lossInRange, recordReceived}
 use Rattle.jitter.specs.Interarrival.{jitterInRange}
 use Rattle.rtx_state.specs.Repair.{rtxInRange}
 use Rattle.rtx_state.specs.RoundTrip.{sampledRtt}
+use Rattle.config.specs.Timings.{nackTimings}
 use Rattle.config.specs.Valid.{settingsValid, sendersValid}
 use Rattle.rtp_packet.specs.Datagram.{datagramRefusal, wrongPadding}
 use Rattle.rtp_packet.specs.Header.{headerLength, extensionStart, extensionLength, bit, payloadOf, payloadEnd, paddingLength, bigEndian}
@@ -20,7 +21,7 @@ use Rattle.model.specs.Did.{did, accepted}
 use Rattle.model.specs.Lists.{every?, some?, following, keep}
 use Rattle.model.specs.Push.{mediaEntry, extendedTimestamp, extendedNumber, mediaPlace, passed, atOrBelow, overfull, afterQueued, heard, insertSorted, afterMedia, withinDepth, lastAfter, countReceived, jitterAfter}
 use Rattle.model.specs.Records.{newState, returnedOf, lastTimestampOf, highestOf}
-use Rattle.model.specs.Rules.{extended, waits, placeOf, gapsAfter, gapsFrom, between, below, fresh, dueAt, due}
+use Rattle.model.specs.Rules.{extended, waits, placeOf, gapsAfter, gapsFrom, between, below, fresh, estimateIn, timingsIn, dueAt}
 use Rattle.model.specs.Storage.{write, lengthsFit, entriesLaid, payloadsLaid, gapsLaid, rememberedLaid, parse, entriesOf, gapsOf, rememberedOf}
 use Rattle.model.specs.Table.{refusal, sessionRefusal, refuseIf, sessionSound, configValid, callRefusal, mediaRefusal, clockRefusal, countRefusal, mediaValues, tooManyGaps}
 use Rattle.model.specs.Valid.{sound, countsFit, queueSound, lastSound, returnedSound, countersSound, entrySound, atMost, notPassed, byClock}
@@ -32,7 +33,7 @@ use Rattle.book.proofs.rows.Statement.{statement}
 use Rattle.book.proofs.rows.Tie as tie
 
 returns : tie.Need-returns
-unfolding zipWith eq ofInt le ofBits add mul sub flat blocks ascends padded over guessed orElse lossInRange recordReceived jitterInRange rtxInRange sampledRtt settingsValid sendersValid datagramRefusal wrongPadding headerLength extensionStart extensionLength bit payloadOf payloadEnd paddingLength bigEndian originalRefusal originalNumber originalPayload taken answered did accepted every? some? following keep mediaEntry extendedTimestamp extendedNumber mediaPlace passed atOrBelow overfull afterQueued heard insertSorted afterMedia withinDepth lastAfter countReceived jitterAfter newState returnedOf lastTimestampOf highestOf extended waits placeOf gapsAfter gapsFrom between below fresh dueAt due write lengthsFit entriesLaid payloadsLaid gapsLaid rememberedLaid parse entriesOf gapsOf rememberedOf refusal sessionRefusal refuseIf sessionSound configValid callRefusal mediaRefusal clockRefusal countRefusal mediaValues tooManyGaps sound countsFit queueSound lastSound returnedSound countersSound entrySound atMost notPassed byClock B.arrived B.accounted B.enter B.onMedia B.highest B.empty B.withinDepth B.overfull B.arrive B.spanAfter B.pushOut B.forgottenBy calls call hear answer RowsHold sort
+unfolding zipWith eq ofInt le ofBits add mul sub flat blocks ascends padded over guessed orElse lossInRange recordReceived jitterInRange rtxInRange sampledRtt settingsValid sendersValid datagramRefusal wrongPadding headerLength extensionStart extensionLength bit payloadOf payloadEnd paddingLength bigEndian originalRefusal originalNumber originalPayload taken answered did accepted every? some? following keep mediaEntry extendedTimestamp extendedNumber mediaPlace passed atOrBelow overfull afterQueued heard insertSorted afterMedia withinDepth lastAfter countReceived jitterAfter newState returnedOf lastTimestampOf highestOf extended waits placeOf gapsAfter gapsFrom between below fresh estimateIn timingsIn dueAt nackTimings write lengthsFit entriesLaid payloadsLaid gapsLaid rememberedLaid parse entriesOf gapsOf rememberedOf refusal sessionRefusal refuseIf sessionSound configValid callRefusal mediaRefusal clockRefusal countRefusal mediaValues tooManyGaps sound countsFit queueSound lastSound returnedSound countersSound entrySound atMost notPassed byClock B.arrived B.accounted B.enter B.onMedia B.highest B.empty B.withinDepth B.overfull B.arrive B.spanAfter B.pushOut B.forgottenBy calls call hear answer RowsHold sort
 returns c = refl
 
 pub rows-spec : {M : Type 1} → statement M

@@ -6,7 +6,7 @@ use lib.ListN.{length, drop}
 use Rattle.model.specs.Lists.{keep}
 use Rattle.model.specs.Storage.{gapsOf}
 use Rattle.packet_gaps.specs.Gaps.{gap}
-use Rattle.lost_nacked.specs.Remembered.{once}
+use Rattle.model.specs.Rules.{once}
 use Rattle.lost_nacked.proofs.Laws.{once-more, once-skip, once-end}
 use borrow.Author.Needs.{needs}
 use Rattle.lost_nacked.proofs.count_once.Statement.{statement}

@@ -3,7 +3,7 @@ use native.Mathlib.Omega.{arith}
 use Rattle.model.specs.Storage.{gapsOf}
 use Rattle.model.proofs.Laid.{length-gapsOf}
 use Rattle.model.proofs.Lists.{length-keep}
-use Rattle.lost_nacked.specs.Remembered.{once}
+use Rattle.model.specs.Rules.{once}
 use Rattle.lost_nacked.proofs.Noting.{note-count, note-in, note-length, note-words}
 use borrow.Author.Needs.{needs}
 use Rattle.lost_nacked.proofs.note_lost.Statement.{statement}

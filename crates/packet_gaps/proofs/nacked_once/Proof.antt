@@ -1,6 +1,6 @@
 -- `packet_gaps::nacked_once` meets its contract: a branch each.
 use borrow.Author.Tests.{eq-eqb, ne-eqb}
-use Rattle.packet_gaps.specs.Gaps.{nackedOnce}
+use Rattle.model.specs.Rules.{nackedOnce}
 use Rattle.packet_gaps.proofs.nacked_once.Statement.{statement}
 use Rattle.packet_gaps.proofs.nacked_once.Tie as tie
 

@@ -3,8 +3,8 @@ use mathlib.Core.Path.{sym, ap, _∙_}
 use native.Mathlib.Omega.{arith}
 use lib.ListN.{length}
 use Rattle.words.specs.Blocks.{laid}
+use Rattle.model.specs.Rules.{nackedOnce, onceOf}
 use Rattle.model.specs.Storage.{gapWords}
-use Rattle.packet_gaps.specs.Gaps.{nackedOnce, onceOf}
 use Rattle.packet_gaps.proofs.Laws.{firsts-ascend, found-in, found-is, without-is, gap-at, gaps-cut}
 use borrow.Author.Needs.{needs}
 use Rattle.packet_gaps.proofs.remove.Statement.{statement}

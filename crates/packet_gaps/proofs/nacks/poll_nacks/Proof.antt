@@ -2,9 +2,10 @@
 use mathlib.Core.Path.{refl, ap, _∙_}
 use Prim.Native.Nat.{_-_}
 use native.Mathlib.Omega.{arith}
+use Rattle.model.specs.Rules.{due}
 use Rattle.model.specs.Storage.{gapsOf}
 use Rattle.model.proofs.Laid.{length-gapsOf}
-use Rattle.packet_gaps.specs.Gaps.{gap, dueBy, full, instantsFit}
+use Rattle.packet_gaps.specs.Gaps.{gap, full, instantsFit}
 use Rattle.packet_gaps.proofs.Laws.{noGap, due-as}
 use Rattle.packet_gaps.proofs.Turns.{every-at}
 use Rattle.packet_gaps.proofs.Writing.{none-at, Polling, polling-none, polling-here, polling-due, polling-skip, polling-count, polling-gaps, polling-out}
@@ -52,7 +53,7 @@ nack-requires c κs = let s = c .before .before .before .before .before .before 
     let g = gap (r .result) in
     let h = c .before .before .before .before .before .before .loop-test .taken in
     let e = polling-here (s .args .t) (s .args .now) (s .args .s .now) (s .args .out .now) (l .s) (l .out) (s .args .n) (l .i) (l .count) (l .inv) h g (r .ensures) in
-    ap full e ∙ none-at (dueBy (s .args .t) (s .args .now)) full (gapsOf (s .args .s .now) (s .args .n)) noGap (l .i) (s .pre .1 .1 .1 .0) (omega (arith, length-gapsOf (s .args .s .now) (s .args .n))) (due-as (s .args .t) (s .args .now) _ _ _ _ (c .before .before .before .is-due .ensures) e (c .before .before .if1 .taken))
+    ap full e ∙ none-at (due (s .args .t) (s .args .now)) full (gapsOf (s .args .s .now) (s .args .n)) noGap (l .i) (s .pre .1 .1 .1 .0) (omega (arith, length-gapsOf (s .args .s .now) (s .args .n))) (due-as (s .args .t) (s .args .now) _ _ _ _ (c .before .before .before .is-due .ensures) e (c .before .before .if1 .taken))
 
 write-requires : tie.Need-write-requires Inv-loop μ-loop
 write-requires c κs = search needs

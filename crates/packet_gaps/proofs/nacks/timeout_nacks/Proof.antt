@@ -3,8 +3,9 @@ use mathlib.Core.Path.{_≡_, ap, _∙_}
 use Prim.Native.Nat.{ℕ, _-_, _≤_}
 use native.Mathlib.Omega.{arith}
 use lib.ListN.{drop}
+use Rattle.model.specs.Poll.{nackTimeout}
 use Rattle.model.specs.Storage.{gapsOf}
-use Rattle.packet_gaps.specs.Gaps.{gap, timeoutBy}
+use Rattle.packet_gaps.specs.Gaps.{gap}
 use Rattle.packet_gaps.proofs.Laws.{read-fits}
 use Rattle.packet_gaps.proofs.Scan.{timeout-step, timeout-end}
 use borrow.Author.Needs.{needs}
@@ -12,7 +13,7 @@ use Rattle.packet_gaps.proofs.nacks.timeout_nacks.Statement.{statement}
 use Rattle.packet_gaps.proofs.nacks.timeout_nacks.Tie as tie
 
 abbrev Inv-loop : tie.InvT-loop
-Inv-loop s n now t timeout₀ i₀ timeout i = (timeout ≡ timeoutBy t now (drop i (gapsOf s n))) × (i ≤ n)
+Inv-loop s n now t timeout₀ i₀ timeout i = (timeout ≡ nackTimeout t now (drop i (gapsOf s n))) × (i ≤ n)
 
 abbrev μ-loop : tie.MeasureT-loop
 μ-loop s n now t timeout₀ i₀ timeout i = i
@@ -51,7 +52,7 @@ returns : tie.Need-returns Inv-loop μ-loop
 returns c = let s = c .before .before .before in
     let l = c .before .loop in
     let z : l .i ≡ 0 = omega arith in
-    l .inv .0 ∙ ap (λ (k : ℕ). timeoutBy (s .args .t) (s .args .now) (drop k (gapsOf (s .args .s .now) (s .args .n)))) z
+    l .inv .0 ∙ ap (λ (k : ℕ). nackTimeout (s .args .t) (s .args .now) (drop k (gapsOf (s .args .s .now) (s .args .n)))) z
 
 pub timeout-nacks-spec : {M : Type 1} → statement M
 timeout-nacks-spec =

@@ -1,5 +1,7 @@
 -- `sampled`, arm by arm.
-use Rattle.session.specs.Place.{sampledAt}
+use Rattle.rtx_state.specs.Repair.{updateRtt}
+use Rattle.model.specs.Rules.{sampledAt}
+use mathlib.Core.Path.{_∙_}
 use borrow.Author.Needs.{needs}
 use Rattle.session.proofs.rtx.sampled.Statement.{statement}
 use Rattle.session.proofs.rtx.sampled.Tie as tie
@@ -18,11 +20,11 @@ update-rtt-requires c κs = search needs
 
 returns : tie.Need-returns
 unfolding sampledAt
-returns c = cc
+returns c = rw (c .enum-told .given .1)
 
 returns-2 : tie.Need-returns-2
-unfolding sampledAt
-returns-2 c = cc
+unfolding sampledAt updateRtt
+returns-2 c = c .update-rtt .ensures ∙ rw (c .before .saturating-sub .ensures, c .before .before .before .nacked .given .1)
 
 pub sampled-spec : {M : Type 1} → statement M
 sampled-spec =
