@@ -13,7 +13,8 @@
  * Instants are nanoseconds since the box started, from a clock that never goes back, at most BIZHGEMU_LATEST. Durations
  * are nanoseconds. Flags are words, 0 or 1; a value beside a flag that is 0 is 0, and so is every answer of a refused call.
  *
- * Most programs want `struct bizhgemu_queue` and the functions named bizhgemu_queue_*, at the end of this file. */
+ * Most programs want `struct bizhgemu_queue` and the functions named bizhgemu_queue_*, at the end of this file. They are C,
+ * compiled with your program; what is proved are the functions of the archive. */
 
 #ifndef BIZHGEMU_H
 #define BIZHGEMU_H
