@@ -1,4 +1,5 @@
--- Why the queue was written: one bit turned over on the way in version, payload type or sender of a packet, a repair above all, is never believed.
+-- Why the queue was written: a packet or repair that the session would have taken is refused if one bit of version, payload type or sender
+-- is turned over on the way. (A bit that makes another sender's packet this session's cannot be seen.)
 use mathlib.Core.Path.{_≡_}
 use mathlib.Core.Bool.{Bool, true}
 use mathlib.Core.List.{List}

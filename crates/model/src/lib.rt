@@ -67,7 +67,8 @@ pub fn never_locks_up()
     ensures { λ r. ⌜ NeverLocksUp ⌝ }
 {}
 
-// One bit turned over in version, payload type or sender of a media packet or a repair is refused, and nothing is altered.
+// A media packet or repair that the session would have taken is refused where one bit of version, payload type or sender is turned over, and
+// nothing is altered.
 pub fn flipped_bit()
     ensures { λ r. ⌜ FlippedBit ⌝ }
 {}
