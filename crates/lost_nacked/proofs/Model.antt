@@ -3,17 +3,10 @@ use mathlib.Core.Path.{_≡_, refl}
 use mathlib.Core.List.{List, [], _∷_}
 use Prim.Native.Nat.{ℕ}
 use Rattle.rtx_state.specs.declared.OptRtt.{OptRtt}
-use Rattle.model.specs.declared.Queue.{Queue}
-use Rattle.model.specs.Lists.{every?}
 use Rattle.model.specs.Records.{Remembered}
 use Rattle.model.specs.Rules.{rttAfterLate}
-use Rattle.model.specs.Valid.{rememberedSound}
 use Rattle.packet_gaps.specs.Gaps.{sampledAt}
-use Rattle.lost_nacked.specs.Remembered.{instantOf, rememberedBy}
-
-pub all-sound : (q : Queue) (rs : List Remembered) → every? (rememberedSound q) rs ≡ every? (rememberedBy (q .clock)) rs
-unfolding rememberedSound
-all-sound q rs = refl
+use Rattle.lost_nacked.specs.Remembered.{instantOf}
 
 pub late-sample : (now : ℕ) (rs : List Remembered) (rtt : OptRtt) → rttAfterLate now rs rtt ≡ sampledAt now (instantOf rs) rtt
 unfolding rttAfterLate instantOf sampledAt

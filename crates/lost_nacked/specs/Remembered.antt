@@ -1,14 +1,13 @@
 -- 002's list in storage: what the functions over it say, in the terms of the queue's definitions.
 use mathlib.Core.Path.{_≡_}
-use mathlib.Core.Bool.{Bool, _&&_, not}
+use mathlib.Core.Bool.{Bool, not}
 use mathlib.Core.List.{List, [], _∷_}
 use Prim.Native.Nat.{ℕ, _*_, _≤_}
-use lib.Dec.{eqb, leb}
+use lib.Dec.{eqb}
 use lib.ListN.{length}
 use Rattle.words.specs.Blocks.{laid}
 use Rattle.rtp.specs.declared.opt.Opt.{Opt}
 use Rattle.rtp.specs.declared.opt.Opt.the-variants.{None, Some}
-use Rattle.durations.specs.Seconds.{largest}
 use Rattle.model.specs.Records.{Gap, Remembered}
 use Rattle.model.specs.Rules.{isOf}
 use Rattle.model.specs.Storage.{REMEMBERED-WORDS, rememberedWords, rememberedOf}
@@ -30,7 +29,3 @@ instantOf (r ∷ rs) = Some (r .nackedAt)
 -- NACKed just once
 abbrev pub once : Gap → Bool
 once g = eqb (g .nacks) 1
-
--- `rememberedSound` of `model`, by the clock
-abbrev pub rememberedBy : ℕ → Remembered → Bool
-rememberedBy clock r = leb (r .number) largest && leb (r .nackedAt) clock

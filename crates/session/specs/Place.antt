@@ -1,6 +1,5 @@
 -- Where a media number stands and what becomes of a repair: for each case of the code's enums the case of `model`; and the sample that a repair yields.
-use mathlib.Core.List.{List, [], _∷_}
-use Prim.Native.Nat.{ℕ, _+_, _-_}
+use Prim.Native.Nat.{ℕ, _-_}
 use Rattle.rtp.specs.declared.opt.Opt.{Opt}
 use Rattle.rtp.specs.declared.opt.Opt.the-variants as Opt
 use Rattle.rtx_state.specs.declared.RtxState.{RtxState}
@@ -28,9 +27,3 @@ fate Fate.Redundant = Push.redundant
 unfoldable pub sampledAt : ℕ → Opt → RtxState → RtxState
 sampledAt now Opt.None s = s
 sampledAt now (Opt.Some i) s = updateRtt s (now - i)
-
--- `fateValues` of `model`, by the size of the payload
-unfoldable pub raisedBy : RtxState → ℕ → Push.Fate → List ℕ
-raisedBy r size Push.tooLate = (r .«received_too_late» + 1) ∷ []
-raisedBy r size Push.redundant = (r .«received_redundant» + 1) ∷ []
-raisedBy r size Push.recovered = (r .«received_in_time» + 1) ∷ (r .«bytes_received» + size) ∷ []
