@@ -15,17 +15,17 @@ use Rattle.words.proofs.Moves.{length-padded, written-next}
 use Rattle.words.proofs.Lists.{map-append}
 use Rattle.words.proofs.Records.{length-words}
 use Rattle.words.proofs.Blocked.{first-at, flat-append, flat-blocks}
+use Rattle.model.specs.declared.Bounds.{Bounds}
 use Rattle.model.specs.Lists.{some?, every?}
 use Rattle.model.specs.Records.{Entry, Gap, entryNumbers}
 use Rattle.model.specs.Rules.{is}
+use Rattle.model.specs.Valid.{fieldsSound, entrySound}
 use Rattle.model.specs.Storage.{ENTRY-WORDS, PAYLOAD-BYTES, arrivalWord, arrivalOf, bit, entryWords, payloadBytes, entryOf, entriesOf}
 use Rattle.model.proofs.Lists.{Each, none, more}
 use Rattle.model.proofs.Laid.{Fits, even-payloads, length-entriesOf}
-use Rattle.packet_gaps.specs.declared.check.Bounds.{Bounds}
 use Rattle.packet_gaps.proofs.Turns.{take-next, left, left-bad, left-last, left-unordered, left-more, left-end}
 use Rattle.entries.specs.declared.Entry as Row
 use Rattle.entries.specs.Entries.{entry, fits}
-use Rattle.entries.specs.Sound.{rowWithin, entryWithin}
 use Rattle.entries.proofs.Laws.{noEntry, entry-numbers, each-fits, read-is, read-size, place-fits, place-is}
 
 -- ---- `are_sound`
@@ -35,7 +35,7 @@ numberOf e = e .number
 
 -- check 16 from place i on
 abbrev pub entriesLeft : Bounds → List Gap → List ℕ → List ℕ → ℕ → ℕ → Bool
-entriesLeft b gaps words bytes n i = left numberOf (entryWithin b gaps) noEntry (entriesOf words bytes n) i
+entriesLeft b gaps words bytes n i = left numberOf (entrySound b gaps) noEntry (entriesOf words bytes n) i
 
 module _ (words bytes : List ℕ) (n i : ℕ) (h : i < n) (r : Row.Entry)
     (e : (p : List ℕ) → entryOf (take ENTRY-WORDS (drop (ENTRY-WORDS * i) words)) p ≡ entry r (padded (r .size) (take (r .size) p)))
@@ -47,17 +47,21 @@ module _ (words bytes : List ℕ) (n i : ℕ) (h : i < n) (r : Row.Entry)
   unfolding es
   inside = rw length-entriesOf h
 
-  here : entryWithin b gaps (getD es i noEntry) ≡ rowWithin b missing r
-  unfolding es entryWithin rowWithin
-  here = ap (entryWithin b gaps) (read-is words bytes n i h r e) ∙ rw (read-size words bytes n i h r e, em)
+  -- the test as the code makes it
+  abbrev rowSound : Bool
+  rowSound = fieldsSound b missing (r .number .0) (r .timestamp .0) (r .arrival) (r .size)
 
-  pub scan-bad : rowWithin b missing r ≡ false → entriesLeft b gaps words bytes n i ≡ false
+  here : entrySound b gaps (getD es i noEntry) ≡ rowSound
   unfolding es
-  scan-bad f = left-bad numberOf (entryWithin b gaps) noEntry es i inside (here ∙ f)
+  here = ap (entrySound b gaps) (read-is words bytes n i h r e) ∙ rw (read-size words bytes n i h r e, em)
 
-  pub scan-last : rowWithin b missing r ≡ true → n ≤ i + 1 → entriesLeft b gaps words bytes n i ≡ entriesLeft b gaps words bytes n (i + 1)
+  pub scan-bad : rowSound ≡ false → entriesLeft b gaps words bytes n i ≡ false
   unfolding es
-  scan-last f l = left-last numberOf (entryWithin b gaps) noEntry es i inside (here ∙ f) (omega (arith, length-entriesOf words bytes n))
+  scan-bad f = left-bad numberOf (entrySound b gaps) noEntry es i inside (here ∙ f)
+
+  pub scan-last : rowSound ≡ true → n ≤ i + 1 → entriesLeft b gaps words bytes n i ≡ entriesLeft b gaps words bytes n (i + 1)
+  unfolding es
+  scan-last f l = left-last numberOf (entrySound b gaps) noEntry es i inside (here ∙ f) (omega (arith, length-entriesOf words bytes n))
 
   -- the numbers at place i and at the next
   number : r .number .0 ≡ getD (entryNumbers es) i 0
@@ -71,14 +75,14 @@ module _ (words bytes : List ℕ) (n i : ℕ) (h : i < n) (r : Row.Entry)
   module _ (k : i + 1 < n) where
     pub scan-unordered : getD words (ENTRY-WORDS * (i + 1)) 0 ≤ r .number .0 → entriesLeft b gaps words bytes n i ≡ false
     unfolding es
-    scan-unordered l = left-unordered numberOf (entryWithin b gaps) noEntry es i inside (omega (arith, length-entriesOf words bytes n)) (r .number .0) (getD words (ENTRY-WORDS * (i + 1)) 0) number (next k) l
+    scan-unordered l = left-unordered numberOf (entrySound b gaps) noEntry es i inside (omega (arith, length-entriesOf words bytes n)) (r .number .0) (getD words (ENTRY-WORDS * (i + 1)) 0) number (next k) l
 
-    pub scan-more : rowWithin b missing r ≡ true → r .number .0 < getD words (ENTRY-WORDS * (i + 1)) 0 → entriesLeft b gaps words bytes n i ≡ entriesLeft b gaps words bytes n (i + 1)
+    pub scan-more : rowSound ≡ true → r .number .0 < getD words (ENTRY-WORDS * (i + 1)) 0 → entriesLeft b gaps words bytes n i ≡ entriesLeft b gaps words bytes n (i + 1)
     unfolding es
-    scan-more f l = left-more numberOf (entryWithin b gaps) noEntry es i inside (omega (arith, length-entriesOf words bytes n)) (r .number .0) (getD words (ENTRY-WORDS * (i + 1)) 0) number (next k) (here ∙ f) l
+    scan-more f l = left-more numberOf (entrySound b gaps) noEntry es i inside (omega (arith, length-entriesOf words bytes n)) (r .number .0) (getD words (ENTRY-WORDS * (i + 1)) 0) number (next k) (here ∙ f) l
 
 pub scan-end : (words bytes : List ℕ) (n i : ℕ) → n ≤ i → (b : Bounds) (gaps : List Gap) → entriesLeft b gaps words bytes n i ≡ true
-scan-end words bytes n i h b gaps = left-end numberOf (entryWithin b gaps) noEntry (entriesOf words bytes n) i (omega (arith, length-entriesOf words bytes n))
+scan-end words bytes n i h b gaps = left-end numberOf (entrySound b gaps) noEntry (entriesOf words bytes n) i (omega (arith, length-entriesOf words bytes n))
 
 -- ---- `tidy_places`
 

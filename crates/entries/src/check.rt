@@ -1,21 +1,20 @@
 // 01's check 16 on the entries, and tidying: what every call does before anything else.
 ghost use mathlib.Core.Path.{_≡_};
-ghost use mathlib.Core.Bool.{true, _&&_};
+ghost use mathlib.Core.Bool.{true};
 ghost use mathlib.Core.List.{List};
 ghost use Prim.Native.Nat.{ℕ, _*_, _≤_};
 ghost use lib.ListN.{length};
 ghost use Rattle.words.specs.Blocks.{laid};
 ghost use Rattle.words.specs.Order.{ascends};
 ghost use Rattle.model.specs.Lists.{every?};
-ghost use Rattle.model.specs.Records.{gapNumbers, entryNumbers};
-ghost use Rattle.model.specs.Valid.{atMost, byClock};
+ghost use Rattle.model.specs.Records.{gapNumbers};
+ghost use Rattle.model.specs.Valid.{atMost, byClock, fieldsSound, entriesSound};
 ghost use Rattle.model.specs.Storage.{ENTRY-WORDS, PAYLOAD-BYTES, GAP-WORDS, entryWords, payloadBytes, entriesOf, gapsOf};
 ghost use Rattle.entries.specs.Entries.{fits};
-ghost use Rattle.entries.specs.Sound.{rowWithin, entryWithin};
 use super::ENTRY_WORDS;
 use super::Entry;
 use super::PAYLOAD_BYTES;
-use packet_gaps::check::Bounds;
+use model::Bounds;
 use rtp::ExtendedSequenceNumber;
 use rtp::opt::Opt;
 
@@ -38,8 +37,8 @@ fn by_clock(clock: u64, instant: Opt) -> bool
 }
 
 // `missing`: the entry's number is that of a gap too.
-fn entry_within(b: Bounds, missing: bool, e: Entry) -> bool
-    ensures { λ r. ⌜ r ≡ rowWithin b missing e ⌝ }
+fn entry_sound(b: Bounds, missing: bool, e: Entry) -> bool
+    ensures { λ r. ⌜ r ≡ fieldsSound b missing (e .number .0) (e .timestamp .0) (e .arrival) (e .size) ⌝ }
 {
     let highest = b.highest;
     let passed = b.passed;
@@ -53,18 +52,18 @@ fn entry_within(b: Bounds, missing: bool, e: Entry) -> bool
                 & ((e.timestamp.0 <= durations::LARGEST) & (came & (e.size <= PAYLOAD_BYTES)))))
 }
 
-// Whether the numbers of the n entries ascend, and each entry is within the bounds and not the number of one of the m gaps. The payloads'
-// bytes are not looked at.
+// Whether the numbers of the n entries ascend, and each entry keeps to the bounds and has not the number of one of the m gaps. The
+// payloads' bytes are not looked at.
 pub fn are_sound(words: &[u64], n: usize, b: Bounds, gaps: &[u64], m: usize) -> bool
     requires { ⌜ (ENTRY-WORDS * n ≤ length (now words)) × (GAP-WORDS * m ≤ length (now gaps)) ⌝ }
     requires { ⌜ ascends (gapNumbers (gapsOf (now gaps) m)) ≡ true ⌝ }
-    ensures { λ r. ⌜ ((bytes : List ℕ) → r ≡ (ascends (entryNumbers (entriesOf (now (words .entry)) bytes n)) && every? (entryWithin b (gapsOf (now (gaps .entry)) m)) (entriesOf (now (words .entry)) bytes n))) ⌝ }
+    ensures { λ r. ⌜ ((bytes : List ℕ) → r ≡ entriesSound b (gapsOf (now (gaps .entry)) m) (entriesOf (now (words .entry)) bytes n)) ⌝ }
 {
     let mut i = 0;
     while i < n {
         let e = super::read(words, i);
         let missing = packet_gaps::contains(gaps, m, e.number);
-        if !entry_within(b, missing, e) {
+        if !entry_sound(b, missing, e) {
             return false;
         }
         let next = i + 1;

@@ -17,11 +17,12 @@ use Rattle.durations.specs.Seconds.{largest}
 use Rattle.model.specs.Lists.{keep, leading, every?}
 use Rattle.model.specs.Records.{Gap, Remembered}
 use Rattle.model.specs.Rules.{once, instantOf, isOf, forgetFirst}
+use Rattle.model.specs.Valid.{rememberedSound}
 use Rattle.model.specs.Storage.{GAP-WORDS, REMEMBERED-WORDS, rememberedWords, rememberedOfWords, rememberedOf, gapOfWords, gapsOf}
 use Rattle.model.proofs.Laid.{remembered-held, remembered-coded, length-rememberedOf, length-gapsOf}
 use Rattle.packet_gaps.proofs.Laws.{noGap, read-is}
 use Rattle.packet_gaps.proofs.Turns.{drop-next, leading-none, leading-more, leading-end}
-use Rattle.lost_nacked.specs.Remembered.{RememberedIn, apart, rememberedBy}
+use Rattle.lost_nacked.specs.Remembered.{RememberedIn, apart}
 
 -- ---- what is read
 
@@ -116,26 +117,27 @@ module _ (s : List ℕ) (n x k : ℕ) (m : RememberedIn s n) (e : k ≡ length (
 -- ---- `are_sound`
 
 module _ (s : List ℕ) (n i clock : ℕ) (h : i < n) where
-  by-is : rememberedBy clock (getD (rememberedOf s n) i noOne) ≡ (leb (getD s (REMEMBERED-WORDS * i) 0) largest && leb (getD s (REMEMBERED-WORDS * i + 1) 0) clock)
-  by-is = ap (rememberedBy clock) (remembered-at s n i h)
+  by-is : rememberedSound clock (getD (rememberedOf s n) i noOne) ≡ (leb (getD s (REMEMBERED-WORDS * i) 0) largest && leb (getD s (REMEMBERED-WORDS * i + 1) 0) clock)
+  unfolding rememberedSound
+  by-is = ap (rememberedSound clock) (remembered-at s n i h)
 
   next : drop i (rememberedOf s n) ≡ getD (rememberedOf s n) i noOne ∷ drop (i + 1) (rememberedOf s n)
   next = drop-next noOne (rememberedOf s n) i (rw length-rememberedOf h)
 
-  pub sound-number : largest < getD s (REMEMBERED-WORDS * i) 0 → every? (rememberedBy clock) (drop i (rememberedOf s n)) ≡ false
+  pub sound-number : largest < getD s (REMEMBERED-WORDS * i) 0 → every? (rememberedSound clock) (drop i (rememberedOf s n)) ≡ false
   unfolding every?
   sound-number l = rw (next, by-is, lt-leb (getD s (REMEMBERED-WORDS * i) 0) largest l)
 
   module _ (a : getD s (REMEMBERED-WORDS * i) 0 ≤ largest) where
-    pub sound-instant : clock < getD s (REMEMBERED-WORDS * i + 1) 0 → every? (rememberedBy clock) (drop i (rememberedOf s n)) ≡ false
+    pub sound-instant : clock < getD s (REMEMBERED-WORDS * i + 1) 0 → every? (rememberedSound clock) (drop i (rememberedOf s n)) ≡ false
     unfolding every?
     sound-instant l = rw (next, by-is, le-leb (getD s (REMEMBERED-WORDS * i) 0) largest a, lt-leb (getD s (REMEMBERED-WORDS * i + 1) 0) clock l)
 
-    pub sound-more : getD s (REMEMBERED-WORDS * i + 1) 0 ≤ clock → every? (rememberedBy clock) (drop i (rememberedOf s n)) ≡ every? (rememberedBy clock) (drop (i + 1) (rememberedOf s n))
+    pub sound-more : getD s (REMEMBERED-WORDS * i + 1) 0 ≤ clock → every? (rememberedSound clock) (drop i (rememberedOf s n)) ≡ every? (rememberedSound clock) (drop (i + 1) (rememberedOf s n))
     unfolding every?
     sound-more l = rw (next, by-is, le-leb (getD s (REMEMBERED-WORDS * i) 0) largest a, le-leb (getD s (REMEMBERED-WORDS * i + 1) 0) clock l)
 
-pub sound-end : (s : List ℕ) (n i clock : ℕ) → n ≤ i → every? (rememberedBy clock) (drop i (rememberedOf s n)) ≡ true
+pub sound-end : (s : List ℕ) (n i clock : ℕ) → n ≤ i → every? (rememberedSound clock) (drop i (rememberedOf s n)) ≡ true
 unfolding every?
 sound-end s n i clock h = let e : drop i (rememberedOf s n) ≡ [] = drop-of-length-le (rememberedOf s n) {i = i} (omega (arith, length-rememberedOf s n)) in rw e
 

@@ -1,12 +1,10 @@
 -- 002's list in storage: what the functions over it say, in the terms of the queue's definitions.
 use mathlib.Core.Path.{_≡_}
-use mathlib.Core.Bool.{Bool, _&&_, not}
+use mathlib.Core.Bool.{Bool, not}
 use mathlib.Core.List.{List}
 use Prim.Native.Nat.{ℕ, _*_, _≤_}
-use lib.Dec.{leb}
 use lib.ListN.{length}
 use Rattle.words.specs.Blocks.{laid}
-use Rattle.durations.specs.Seconds.{largest}
 use Rattle.model.specs.Records.{Remembered}
 use Rattle.model.specs.Rules.{isOf}
 use Rattle.model.specs.Storage.{REMEMBERED-WORDS, rememberedWords, rememberedOf}
@@ -20,6 +18,3 @@ pub record RememberedIn (words : List ℕ) (n : ℕ) : Type 0 where
 abbrev pub apart : ℕ → Remembered → Bool
 apart x r = not (isOf x r)
 
--- `rememberedSound` of `model`, by the clock
-abbrev pub rememberedBy : ℕ → Remembered → Bool
-rememberedBy clock r = leb (r .number) largest && leb (r .nackedAt) clock

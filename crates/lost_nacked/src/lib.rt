@@ -11,7 +11,8 @@ ghost use Rattle.model.specs.Lists.{keep, leading, every?};
 ghost use Rattle.model.specs.Rules.{once, instantOf, isOf, forgetFirst, MAX-LOST-NACKED, remember, rememberedAfter};
 ghost use Rattle.model.specs.Storage.{REMEMBERED-WORDS, GAP-WORDS, rememberedWords, rememberedOf, gapsOf};
 ghost use Rattle.packet_gaps.specs.Gaps.{gap};
-ghost use Rattle.lost_nacked.specs.Remembered.{RememberedIn, apart, rememberedBy};
+ghost use Rattle.lost_nacked.specs.Remembered.{RememberedIn, apart};
+ghost use Rattle.model.specs.Valid.{rememberedSound};
 use packet_gaps::Gap;
 use rtp::ExtendedSequenceNumber;
 use rtp::opt::Opt;
@@ -141,7 +142,7 @@ pub fn note_lost(s: &mut [u64], n: usize, gaps: &[u64], lost: usize) -> usize
 // 01's check 16: no number past the largest, and no instant after the clock's.
 pub fn are_sound(s: &[u64], n: usize, clock: u64) -> bool
     requires { ⌜ REMEMBERED-WORDS * n ≤ length (now s) ⌝ }
-    ensures { λ r. ⌜ r ≡ every? (rememberedBy clock) (rememberedOf (now (s .entry)) n) ⌝ }
+    ensures { λ r. ⌜ r ≡ every? (rememberedSound clock) (rememberedOf (now (s .entry)) n) ⌝ }
 {
     let mut i = 0;
     while i < n {

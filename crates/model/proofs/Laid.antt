@@ -135,7 +135,7 @@ parse-write s h =
     rw (entriesOf-laid (entryPlaces set) (s .entries) h, gapsOf-laid (set .«max_gaps») (s .gaps), rememberedOf-laid (s .remembered))
 
 -- the slices have the lengths that the settings ask for
-pub lengths-write : (s : State) → Each Fits (s .entries) → countsFit s ≡ true → lengthsFit (s .queue .config .settings) (write s .storage) ≡ true
+pub lengths-write : (s : State) → Each Fits (s .entries) → countsFit (s .queue .config .settings) (length (s .entries)) (length (s .gaps)) (length (s .remembered)) ≡ true → lengthsFit (s .queue .config .settings) (write s .storage) ≡ true
 unfolding countsFit lengthsFit write entriesLaid payloadsLaid gapsLaid rememberedLaid laid
 lengths-write s f fit =
     let set = s .queue .config .settings in

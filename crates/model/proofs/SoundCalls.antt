@@ -21,7 +21,7 @@ use Rattle.packet_loss.specs.Loss.{newLoss, lossInRange}
 use Rattle.rtx_state.specs.RoundTrip.{optRttInRange}
 use Rattle.model.specs.declared.Config.{Config}
 use Rattle.model.specs.Records.{State, newQueue, newState, highestOf, returnedOf}
-use Rattle.model.specs.Valid.{lastSound, countsFit, sound}
+use Rattle.model.specs.Valid.{lastSound, sound}
 use Rattle.model.specs.Storage.{Stored, lengthsFit, parse, write}
 use Rattle.model.specs.Calls.{Call, media, repair, poll, pollNack, timeoutReceive, timeoutNack, rtxStats, highestReceived, taken}
 use Rattle.model.specs.Table.{refuseIf, configValid, sessionSound, sessionRefusal, callRefusal, refusal, openingRefusal}
@@ -104,7 +104,7 @@ written : (s : State) → Sound s → sessionRefusal (write s) ≡ 0
 unfolding sessionRefusal sessionSound write
 written s h =
     let set = s .queue .config .settings in
-    let fit = lengths-write s (payloads-fit h) (is-true (countsFit s) (fits-to s (h .fits))) in
+    let fit = lengths-write s (payloads-fit h) (is-true _ (fits-to s (h .fits))) in
     passes (sessionSound (write s)) SESSION
     (and-i (configValid (s .queue .config)) (lengthsFit set (write s .storage) && sound (parse (write s))) (h .queue-in .config-in)
     (and-i (lengthsFit set (write s .storage)) (sound (parse (write s))) (subst T (sym fit) tt) (subst (λ (x : State). T (sound x)) (sym (parse-write s (payloads-fit h))) (sound-to s h))))

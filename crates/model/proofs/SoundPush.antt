@@ -24,7 +24,8 @@ use Rattle.model.specs.Lists.{some?}
 use Rattle.model.specs.Records.{Entry, Gap, Remembered, State, highestOf, returnedOf}
 use Rattle.model.specs.Rules.{MAX-GAP-SIZE, MAX-LOST-NACKED, is, below, without, gapsFrom, Place, first, near, far, fills, other, placeOf, waits, between, gapsAfter, isOf, forgetFirst}
 use Rattle.model.specs.Push.{passed, insertSorted, mediaPlace, heard, lastAfter, countDropped, countReceived, afterDropped, afterQueued, frontOut, overfull, withinDepth, mediaEntry, afterMedia, Fate, tooLate, recovered, redundant, repairFate, repairEntry, afterFate, afterRepair}
-use Rattle.model.specs.Table.{mediaValues, tooManyGaps, mediaRefusal, fateValues, noPlace, repairRefusal}
+use Rattle.model.specs.Storage.{entryPlaces}
+use Rattle.model.specs.Table.{mediaValues, tooManyGaps, packetRefusal, mediaRefusal, originalNumberRefusal, fateValues, noPlace, fateRefusal, repairRefusal}
 use Rattle.model.proofs.Lists.{by-cases, by-nand, arm-yes, arm-no, Each, none, more, each-first, each-rest, each-keep, empty, rising-keep, length-keep, length-following, length-insert}
 use Rattle.model.proofs.Sound.{Reached, Ahead, ahead-of, By, EntryIn, ListsIn, QueueIn, ListsOf, Sound}
 use Rattle.model.proofs.SoundLists.{reached-gap, later, fewer, remembering, out, fill, come, step, from-ahead}
@@ -137,7 +138,7 @@ module _ (now : ℕ) (s : State) (h : Sound s) (later-now : s .queue .clock ≤ 
       loss-set (counters-set (last-set q (last-after now p (s .queue .last) a b (q .last-in))) (record { dropped-fits = c .dropped-fits; received-fits = r; bytes-fit = y; lost-fits = c .lost-fits }))
       (received-in (s .queue .loss) (q .loss-in))
 
-  queued-sound : (e : Entry) → let p = mediaPlace s (e .number) in T (waits p) → By now (e .arrival) → length (e .payload) ≤ LARGEST-PAYLOAD → Each (λ v. v ≤ largest) (mediaValues now e p s) → T (not (tooManyGaps (s .queue .config .settings) (s .gaps) (e .number) p)) → Sound (withinDepth (afterQueued now e p s))
+  queued-sound : (e : Entry) → let p = mediaPlace s (e .number) in T (waits p) → By now (e .arrival) → length (e .payload) ≤ LARGEST-PAYLOAD → Each (λ v. v ≤ largest) (e .timestamp ∷ e .number ∷ mediaValues (s .queue .counters) (length (e .payload)) (waits p) (overfull (afterQueued now e p s))) → T (not (tooManyGaps (s .queue .config .settings) (s .gaps) (e .number) p)) → Sound (withinDepth (afterQueued now e p s))
   unfolding mediaValues afterQueued heard countReceived
   queued-sound e w by size values room =
       let p = mediaPlace s (e .number) in
@@ -152,7 +153,7 @@ module _ (now : ℕ) (s : State) (h : Sound s) (later-now : s .queue .clock ≤ 
       (λ t. each-first (arm-yes (Each (λ v. v ≤ largest)) (overfull (afterQueued now e p s)) _ _ t (each-rest (each-rest raised))))
 
 pub media-sound : (now : ℕ) (d : List ℕ) (s : State) → Sound s → mediaRefusal now d s ≡ 0 → Sound (afterMedia now d s)
-unfolding mediaRefusal afterMedia mediaEntry mediaValues By
+unfolding mediaRefusal packetRefusal afterMedia mediaEntry mediaValues By
 media-sound now d s h e =
     let x = mediaEntry now d (s .queue) in
     let p = mediaPlace s (x .number) in
@@ -160,7 +161,7 @@ media-sound now d s h e =
     let b = orElse-none _ _ (a .1) in
     let c = orElse-none _ _ (b .1) in
     let t = clock-of (s .queue) now (a .0) in
-    let values = counts-of (mediaValues now x p s) (c .0) in
+    let values = counts-of _ (c .0) in
     by-cases Sound (waits p)
     (λ w. queued-sound now s h (t .0) (t .1) x w (omega arith) (payload-fits _ _ LARGEST-PAYLOAD d (b .0)) values (not-refused (tooManyGaps (s .queue .config .settings) (s .gaps) (x .number) p) GAPS-FULL (lit< tt) (c .1)))
     (λ n. dropped-sound now s h (t .0) (t .1) (x .timestamp) (each-first values) (each-first (arm-no (Each (λ v. v ≤ largest)) (waits p) _ _ n (each-rest (each-rest values)))))
@@ -181,7 +182,7 @@ module _ (now : ℕ) (e : Entry) (s : State) (h : Sound s) (later-now : s .queue
   abbrev q : QueueIn (s .queue)
   q = h .queue-in
 
-  too-late-sound : Each (λ v. v ≤ largest) (fateValues e tooLate (s .queue)) → Sound (afterFate now e tooLate s)
+  too-late-sound : Each (λ v. v ≤ largest) (fateValues (s .queue .rtx) (length (e .payload)) tooLate) → Sound (afterFate now e tooLate s)
   unfolding afterFate fateValues recordTooLate
   too-late-sound values =
       let l = later (h .lists-in) later-now in
@@ -192,7 +193,7 @@ module _ (now : ℕ) (e : Entry) (s : State) (h : Sound s) (later-now : s .queue
         lists-in = remembering l (each-forget (e .number) (l .remembered-in));
       }
 
-  redundant-sound : Each (λ v. v ≤ largest) (fateValues e redundant (s .queue)) → Sound (afterFate now e redundant s)
+  redundant-sound : Each (λ v. v ≤ largest) (fateValues (s .queue .rtx) (length (e .payload)) redundant) → Sound (afterFate now e redundant s)
   unfolding afterFate fateValues recordRedundant
   redundant-sound values =
       let raised = each-first values in
@@ -202,7 +203,7 @@ module _ (now : ℕ) (e : Entry) (s : State) (h : Sound s) (later-now : s .queue
         lists-in = later (h .lists-in) later-now;
       }
 
-  recovered-sound : Each (λ v. v ≤ largest) (fateValues e recovered (s .queue)) → T (not (noPlace s recovered)) → EntryIn now (highestOf (s .queue .last)) (s .queue .config .settings .mode) (returnedOf (s .queue .returned)) e → T (some? (is (e .number)) (s .gaps)) → Sound (afterFate now e recovered s)
+  recovered-sound : Each (λ v. v ≤ largest) (fateValues (s .queue .rtx) (length (e .payload)) recovered) → T (not (noPlace (entryPlaces (s .queue .config .settings)) (length (s .entries)) recovered)) → EntryIn now (highestOf (s .queue .last)) (s .queue .config .settings .mode) (returnedOf (s .queue .returned)) e → T (some? (is (e .number)) (s .gaps)) → Sound (afterFate now e recovered s)
   unfolding afterFate fateValues recordInTime noPlace without
   recovered-sound values room k t =
       let raised = each-first values in
@@ -210,7 +211,7 @@ module _ (now : ℕ) (e : Entry) (s : State) (h : Sound s) (later-now : s .queue
       record {
         fits =
             record {
-              entries-fit = omega (arith, length-insert e (s .entries), nleb→lt (2 * s .queue .config .settings .«max_entries») (length (s .entries)) room);
+              entries-fit = omega (arith, length-insert e (s .entries), nleb→lt (entryPlaces (s .queue .config .settings)) (length (s .entries)) room);
               gaps-fit = omega (arith, length-keep (λ (g : Gap). not (is (e .number) g)) (s .gaps), h .fits .gaps-fit);
               remembered-fit = h .fits .remembered-fit;
             };
@@ -218,7 +219,7 @@ module _ (now : ℕ) (e : Entry) (s : State) (h : Sound s) (later-now : s .queue
         lists-in = fill (later (h .lists-in) later-now) e k t;
       }
 
-  fate-sound : e .arrival ≡ None → e .timestamp ≤ largest → length (e .payload) ≤ LARGEST-PAYLOAD → (let f = repairFate s (e .number) in Each (λ v. v ≤ largest) (fateValues e f (s .queue)) → T (not (noPlace s f)) → Sound (afterFate now e f s))
+  fate-sound : e .arrival ≡ None → e .timestamp ≤ largest → length (e .payload) ≤ LARGEST-PAYLOAD → (let f = repairFate s (e .number) in Each (λ v. v ≤ largest) (fateValues (s .queue .rtx) (length (e .payload)) f) → T (not (noPlace (entryPlaces (s .queue .config .settings)) (length (s .entries)) f)) → Sound (afterFate now e f s))
   unfolding repairFate By
   fate-sound none-came ts size =
       by-cases P (passed mode returned (e .number)) (λ y values room. too-late-sound values)
@@ -237,19 +238,18 @@ module _ (now : ℕ) (e : Entry) (s : State) (h : Sound s) (later-now : s .queue
       returned = returnedOf (s .queue .returned)
 
       P : Fate → Type 0
-      P f = Each (λ v. v ≤ largest) (fateValues e f (s .queue)) → T (not (noPlace s f)) → Sound (afterFate now e f s)
+      P f = Each (λ v. v ≤ largest) (fateValues (s .queue .rtx) (length (e .payload)) f) → T (not (noPlace (entryPlaces (s .queue .config .settings)) (length (s .entries)) f)) → Sound (afterFate now e f s)
 
 pub repair-sound : (now : ℕ) (d : List ℕ) (s : State) → Sound s → repairRefusal now d s ≡ 0 → Sound (afterRepair now d s)
-unfolding repairRefusal afterRepair repairEntry originalPayload
+unfolding repairRefusal originalNumberRefusal fateRefusal afterRepair repairEntry originalPayload
 repair-sound now d s h e =
     let x = repairEntry d (s .queue) in
     let a = orElse-none _ _ e in
     let b = orElse-none _ _ (a .1) in
     let c = orElse-none _ _ (b .1) in
-    let m = orElse-none _ _ (c .1) in
-    let o = orElse-none _ _ (m .1) in
+    let o = orElse-none _ _ (c .1) in
     let v = orElse-none _ _ (o .1) in
     let t = clock-of (s .queue) now (a .0) in
-    let values = counts-of (x .timestamp ∷ x .number ∷ fateValues x (repairFate s (x .number)) (s .queue)) (v .0) in
+    let values = counts-of (x .timestamp ∷ x .number ∷ fateValues (s .queue .rtx) (length (x .payload)) (repairFate s (x .number))) (v .0) in
     fate-sound now x s h (t .0) (t .1) refl (each-first values) (omega (arith, length-drop 2 (payloadOf d), payload-fits _ _ LARGEST-REPAIR d (c .0))) (each-rest (each-rest values))
-    (not-refused (noPlace s (repairFate s (x .number))) ENTRIES-FULL (lit< tt) (v .1))
+    (not-refused _ ENTRIES-FULL (lit< tt) (v .1))

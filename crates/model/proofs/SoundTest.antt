@@ -1,7 +1,7 @@
 -- The facts of Sound, taken out of the tests of check 16 and put back into them.
 use mathlib.Core.Bool.{Bool, not, _&&_}
 use mathlib.Core.List.{List, [], _∷_}
-use Prim.Native.Nat.{_*_, _≤_}
+use Prim.Native.Nat.{_≤_}
 use lib.Dec.{T, leb, leb→le, le→leb}
 use lib.Ieee.Fits.{and-l, and-r, and-i}
 use lib.ListN.{length}
@@ -19,10 +19,13 @@ use Rattle.config.specs.Valid.{within, longest, settingsValid, sendersValid}
 use Rattle.model.specs.declared.Config.{Config}
 use Rattle.model.specs.declared.Counters.{Counters}
 use Rattle.model.specs.declared.Queue.{Queue}
+use Rattle.model.specs.declared.Bounds.{Bounds}
 use Rattle.model.specs.Lists.{some?, every?}
 use Rattle.model.specs.Records.{Entry, Gap, Remembered, State, entryNumbers, gapNumbers, highestOf, returnedOf}
 use Rattle.model.specs.Rules.{is, MAX-LOST-NACKED}
-use Rattle.model.specs.Valid.{atMost, under, notPassed, byClock, entrySound, gapSound, rememberedSound, lastSound, returnedSound, countersSound, queueSound, countsFit, sound}
+use Rattle.model.specs.Valid.{boundsOf, atMost, under, notPassed, byClock, gapSound, gapsSound, fieldsSound, entrySound, entriesSound, rememberedSound, listsSound, lastSound, returnedSound, countersSound, queueSound, countsFit, sound}
+use Rattle.model.specs.Push.{passed}
+use Rattle.model.specs.Storage.{entryPlaces}
 use Rattle.model.specs.Table.{configValid}
 use Rattle.model.proofs.Lists.{each-imp, each-both, each-of-every, every-of-each, rising-of-ascends, ascends-of-rising, apart-of-not-some, not-some-of-apart}
 use Rattle.model.proofs.Sound.{Returned, reached-of, reached-to, under-of, under-to, ahead-of, ahead-to, returned-of, returned-to, by-of, by-to, GapIn, EntryIn, Apart, RememberedIn, CountersIn, RtxIn, QueueIn, Fits, Sound}
@@ -117,47 +120,47 @@ module _ (q : Queue) where
   returned = returnedOf (q .returned)
 
   abbrev gapTests : Gap → List Bool
-  gapTests g = notPassed q (g .number) ∷ leb (g .detected) (q .clock) ∷ leb (g .nackedAt) (q .clock) ∷ []
+  gapTests g = notPassed (boundsOf q .passed) (g .number) ∷ leb (g .detected) (q .clock) ∷ leb (g .nackedAt) (q .clock) ∷ []
 
-  gap-of : (g : Gap) → T (gapSound q g) → GapIn (q .clock) highest mode returned g
-  unfolding gapSound notPassed allOf Parts
+  gap-of : (g : Gap) → T (gapSound (boundsOf q) g) → GapIn (q .clock) highest mode returned g
+  unfolding gapSound boundsOf notPassed passed allOf Parts
   gap-of g t =
       let p = parts (under highest (g .number)) (gapTests g) t in
       record { under = under-of _ _ (p .0); ahead = ahead-of _ _ _ (p .1 .0); detected-by = leb→le _ _ (p .1 .1 .0); nacked-by = leb→le _ _ (p .1 .1 .1) }
 
-  gap-to : (g : Gap) → GapIn (q .clock) highest mode returned g → T (gapSound q g)
-  unfolding gapSound notPassed allOf Parts
+  gap-to : (g : Gap) → GapIn (q .clock) highest mode returned g → T (gapSound (boundsOf q) g)
+  unfolding gapSound boundsOf notPassed passed allOf Parts
   gap-to g h =
       whole (under highest (g .number)) (gapTests g) (under-to _ _ (h .under), (ahead-to _ _ _ (h .ahead), (le→leb _ _ (h .detected-by), le→leb _ _ (h .nacked-by))))
 
   abbrev entryTests : List Gap → Entry → List Bool
   entryTests gaps e =
-      notPassed q (e .number)
+      notPassed (boundsOf q .passed) (e .number)
       ∷ not (some? (is (e .number)) gaps)
       ∷ leb (e .timestamp) largest
       ∷ byClock (q .clock) (e .arrival)
       ∷ leb (length (e .payload)) LARGEST-PAYLOAD
       ∷ []
 
-  entry-of : (gaps : List Gap) (e : Entry) → T (entrySound q gaps e) → EntryIn (q .clock) highest mode returned e × Apart gaps (e .number)
-  unfolding entrySound notPassed allOf Parts
+  entry-of : (gaps : List Gap) (e : Entry) → T (entrySound (boundsOf q) gaps e) → EntryIn (q .clock) highest mode returned e × Apart gaps (e .number)
+  unfolding fieldsSound boundsOf notPassed passed allOf Parts
   entry-of gaps e t =
       let p = parts (atMost highest (e .number)) (entryTests gaps e) t in
       (record { reached = reached-of _ _ (p .0); ahead = ahead-of _ _ _ (p .1 .0); timestamp-fits = leb→le _ _ (p .1 .1 .1 .0); came-by = by-of _ _ (p .1 .1 .1 .1 .0); payload-fits = leb→le _ _ (p .1 .1 .1 .1 .1) }, apart-of-not-some (e .number) gaps (p .1 .1 .0))
 
-  entry-to : (gaps : List Gap) (e : Entry) → EntryIn (q .clock) highest mode returned e × Apart gaps (e .number) → T (entrySound q gaps e)
-  unfolding entrySound notPassed allOf Parts
+  entry-to : (gaps : List Gap) (e : Entry) → EntryIn (q .clock) highest mode returned e × Apart gaps (e .number) → T (entrySound (boundsOf q) gaps e)
+  unfolding fieldsSound boundsOf notPassed passed allOf Parts
   entry-to gaps e (h, a) =
       whole (atMost highest (e .number)) (entryTests gaps e)
       (reached-to _ _ (h .reached), (ahead-to _ _ _ (h .ahead), (not-some-of-apart (e .number) gaps a, (le→leb _ _ (h .timestamp-fits), (by-to _ _ (h .came-by), le→leb _ _ (h .payload-fits))))))
 
-  remembered-of : (r : Remembered) → T (rememberedSound q r) → RememberedIn (q .clock) r
+  remembered-of : (r : Remembered) → T (rememberedSound (q .clock) r) → RememberedIn (q .clock) r
   unfolding rememberedSound allOf Parts
   remembered-of r t =
       let p = parts (leb (r .number) largest) (leb (r .nackedAt) (q .clock) ∷ []) t in
       record { number-fits = leb→le _ _ (p .0); nacked-by = leb→le _ _ (p .1) }
 
-  remembered-to : (r : Remembered) → RememberedIn (q .clock) r → T (rememberedSound q r)
+  remembered-to : (r : Remembered) → RememberedIn (q .clock) r → T (rememberedSound (q .clock) r)
   unfolding rememberedSound allOf Parts
   remembered-to r h = whole (leb (r .number) largest) (leb (r .nackedAt) (q .clock) ∷ []) (le→leb _ _ (h .number-fits), le→leb _ _ (h .nacked-by))
 
@@ -186,55 +189,58 @@ module _ (s : State) where
   abbrev fitTests : List Bool
   fitTests = leb (length (s .gaps)) (s .queue .config .settings .«max_gaps») ∷ leb (length (s .remembered)) MAX-LOST-NACKED ∷ []
 
-  fits-of : T (countsFit s) → Fits s
+  abbrev counted : Bool
+  counted = countsFit (s .queue .config .settings) (length (s .entries)) (length (s .gaps)) (length (s .remembered))
+
+  fits-of : T counted → Fits s
   unfolding countsFit allOf Parts
   fits-of t =
-      let p = parts (leb (length (s .entries)) (2 * s .queue .config .settings .«max_entries»)) fitTests t in
+      let p = parts (leb (length (s .entries)) (entryPlaces (s .queue .config .settings))) fitTests t in
       record { entries-fit = leb→le _ _ (p .0); gaps-fit = leb→le _ _ (p .1 .0); remembered-fit = leb→le _ _ (p .1 .1) }
 
-  pub fits-to : Fits s → T (countsFit s)
+  pub fits-to : Fits s → T counted
   unfolding countsFit allOf Parts
   fits-to h =
-      whole (leb (length (s .entries)) (2 * s .queue .config .settings .«max_entries»)) fitTests
+      whole (leb (length (s .entries)) (entryPlaces (s .queue .config .settings))) fitTests
       (le→leb _ _ (h .entries-fit), (le→leb _ _ (h .gaps-fit), le→leb _ _ (h .remembered-fit)))
 
+  abbrev bounds : Bounds
+  bounds = boundsOf (s .queue)
+
   abbrev soundTests : List Bool
-  soundTests =
-      queueSound (s .queue)
-      ∷ ascends (gapNumbers (s .gaps))
-      ∷ every? (gapSound (s .queue)) (s .gaps)
-      ∷ ascends (entryNumbers (s .entries))
-      ∷ every? (entrySound (s .queue) (s .gaps)) (s .entries)
-      ∷ every? (rememberedSound (s .queue)) (s .remembered)
-      ∷ []
+  soundTests = queueSound (s .queue) ∷ gapsSound bounds (s .gaps) ∷ entriesSound bounds (s .gaps) (s .entries) ∷ every? (rememberedSound (s .queue .clock)) (s .remembered) ∷ []
 
   pub sound-of : T (configValid (s .queue .config)) → T (sound s) → Sound s
-  unfolding sound allOf Parts
+  unfolding sound listsSound allOf Parts
   sound-of v t =
-      let p = parts (countsFit s) soundTests t in
+      let p = parts counted soundTests t in
       let q = queue-of (s .queue) v (p .1 .0) in
-      let e = each-of-every (entrySound (s .queue) (s .gaps)) (s .entries) (entry-of (s .queue) (s .gaps)) (p .1 .1 .1 .1 .1 .0) in
+      let g = parts (ascends (gapNumbers (s .gaps))) (every? (gapSound bounds) (s .gaps) ∷ []) (p .1 .1 .0) in
+      let w = parts (ascends (entryNumbers (s .entries))) (every? (entrySound bounds (s .gaps)) (s .entries) ∷ []) (p .1 .1 .1 .0) in
+      let e = each-of-every (entrySound bounds (s .gaps)) (s .entries) (entry-of (s .queue) (s .gaps)) (w .1) in
       record {
         fits = fits-of (p .0);
         queue-in = q .0;
         lists-in =
             record {
               returned-in = q .1;
-              gaps-rise = rising-of-ascends _ (s .gaps) (p .1 .1 .0);
-              gaps-in = each-of-every (gapSound (s .queue)) (s .gaps) (gap-of (s .queue)) (p .1 .1 .1 .0);
-              entries-rise = rising-of-ascends _ (s .entries) (p .1 .1 .1 .1 .0);
+              gaps-rise = rising-of-ascends _ (s .gaps) (g .0);
+              gaps-in = each-of-every (gapSound bounds) (s .gaps) (gap-of (s .queue)) (g .1);
+              entries-rise = rising-of-ascends _ (s .entries) (w .0);
               entries-in = each-imp (λ x h. h .0) e;
               apart = each-imp (λ x h. h .1) e;
-              remembered-in = each-of-every (rememberedSound (s .queue)) (s .remembered) (remembered-of (s .queue)) (p .1 .1 .1 .1 .1 .1);
+              remembered-in = each-of-every (rememberedSound (s .queue .clock)) (s .remembered) (remembered-of (s .queue)) (p .1 .1 .1 .1);
             };
       }
 
   pub sound-to : Sound s → T (sound s)
-  unfolding sound allOf Parts
+  unfolding sound listsSound allOf Parts
   sound-to h =
       let l = h .lists-in in
-      whole (countsFit s) soundTests
-      (fits-to (h .fits), (queue-to (s .queue) (h .queue-in) (l .returned-in), (ascends-of-rising _ (s .gaps) (l .gaps-rise), (every-of-each (gapSound (s .queue)) (gap-to (s .queue)) (l .gaps-in), (ascends-of-rising _ (s .entries) (l .entries-rise), (every-of-each (entrySound (s .queue) (s .gaps)) (entry-to (s .queue) (s .gaps)) (each-both (l .entries-in) (l .apart)), every-of-each (rememberedSound (s .queue)) (remembered-to (s .queue)) (l .remembered-in)))))))
+      let g = and-i (ascends (gapNumbers (s .gaps))) (every? (gapSound bounds) (s .gaps)) (ascends-of-rising _ (s .gaps) (l .gaps-rise)) (every-of-each (gapSound bounds) (gap-to (s .queue)) (l .gaps-in)) in
+      let e = and-i (ascends (entryNumbers (s .entries))) (every? (entrySound bounds (s .gaps)) (s .entries)) (ascends-of-rising _ (s .entries) (l .entries-rise)) (every-of-each (entrySound bounds (s .gaps)) (entry-to (s .queue) (s .gaps)) (each-both (l .entries-in) (l .apart))) in
+      whole counted soundTests
+      (fits-to (h .fits), (queue-to (s .queue) (h .queue-in) (l .returned-in), (g, (e, every-of-each (rememberedSound (s .queue .clock)) (remembered-to (s .queue)) (l .remembered-in)))))
 
 -- ---- the setting that the jitter's range rests on
 

@@ -12,7 +12,7 @@ use Rattle.config.specs.declared.Settings.{Settings}
 use Rattle.config.specs.Timings.{targetDelay}
 use Rattle.model.specs.declared.Queue.{Queue}
 use Rattle.model.specs.Records.{Entry, State, highestOf}
-use Rattle.model.specs.Rules.{waits}
+use Rattle.model.specs.Rules.{Place, waits}
 use Rattle.model.specs.Push.{mediaEntry, mediaPlace, afterMedia, Fate, repairEntry, repairFate, afterRepair}
 use Rattle.model.specs.Poll.{front, afterPoll, nackNumbers, afterPollNack, receiveTimeout, timingsOf, nackTimeout, figures}
 
@@ -80,8 +80,12 @@ unfoldable pub nackAnswer : List ℕ → Answer
 nackAnswer [] = nothing
 nackAnswer (n ∷ ns) = nack (length (n ∷ ns))
 
+unfoldable pub placedAnswer : Place → Answer
+placedAnswer p = cond (waits p) queued dropped
+
 unfoldable pub answered : Call → State → Answer
-answered (media now d) s = cond (waits (mediaPlace s (mediaEntry now d (s .queue) .number))) queued dropped
+unfolding placedAnswer
+answered (media now d) s = placedAnswer (mediaPlace s (mediaEntry now d (s .queue) .number))
 answered (repair now d) s = repaired (repairFate s (repairEntry d (s .queue) .number))
 answered (poll now out) s = handed (s .queue) (front now s (s .entries))
 answered (pollNack now out) s = nackAnswer (nackNumbers now s)

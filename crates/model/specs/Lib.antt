@@ -4,8 +4,8 @@ pub mod Records
 pub mod Rules
 pub mod Push
 pub mod Poll
-pub mod Valid
 pub mod Storage
+pub mod Valid
 pub mod Calls
 pub mod Table
 pub mod Did

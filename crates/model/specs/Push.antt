@@ -29,10 +29,15 @@ unfoldable pub atOrBelow : ℕ → Opt → Bool
 atOrBelow n None = false
 atOrBelow n (Some m) = leb n m
 
+-- in sorted mode the last returned
+unfoldable pub passedOf : RtpInboundQueueMode → Opt → Opt
+passedOf Passthrough returned = None
+passedOf SortedQueue returned = returned
+
 -- "in sorted mode nothing at or below the last returned number is" queued
 unfoldable pub passed : RtpInboundQueueMode → Opt → ℕ → Bool
-passed Passthrough returned n = false
-passed SortedQueue returned n = atOrBelow n returned
+unfolding passedOf
+passed mode returned n = atOrBelow n (passedOf mode returned)
 
 -- the number and the timestamp of a packet, extended by those of the last media packet
 unfoldable pub extendedNumber : Queue → ℕ → ℕ
@@ -40,6 +45,11 @@ extendedNumber q got = extended 16 (highestOf (q .last)) got
 
 unfoldable pub extendedTimestamp : Queue → ℕ → ℕ
 extendedTimestamp q got = extended 32 (lastTimestampOf (q .last)) got
+
+-- the entry that a packet becomes, by its own timestamp and number
+unfoldable pub extendedEntry : Queue → Opt → ℕ → ℕ → Bool → List ℕ → Entry
+extendedEntry q arrival ts n marker payload =
+    record { arrival = arrival; timestamp = extendedTimestamp q ts; number = extendedNumber q n; marker = marker; payload = payload }
 
 -- `insert_sorted`: before the first entry that is not below it
 unfoldable pub insertSorted : Entry → List Entry → List Entry
@@ -108,14 +118,15 @@ unfoldable pub withinDepth : State → State
 withinDepth s = cond (overfull s) (frontOut (s .entries) s) s
 
 unfoldable pub mediaEntry : ℕ → List ℕ → Queue → Entry
-mediaEntry now d q =
-    record { arrival = Some now; timestamp = extendedTimestamp q (timestamp d); number = extendedNumber q (sequenceNumber d); marker = marker d; payload = payloadOf d }
+unfolding extendedEntry
+mediaEntry now d q = extendedEntry q (Some now) (timestamp d) (sequenceNumber d) (marker d) (payloadOf d)
+
+unfoldable pub afterPlaced : ℕ → Entry → Place → State → State
+afterPlaced now e p s = cond (waits p) (withinDepth (afterQueued now e p s)) (afterDropped now (e .timestamp) s)
 
 unfoldable pub afterMedia : ℕ → List ℕ → State → State
-afterMedia now d s =
-    let e = mediaEntry now d (s .queue) in
-    let p = mediaPlace s (e .number) in
-    cond (waits p) (withinDepth (afterQueued now e p s)) (afterDropped now (e .timestamp) s)
+unfolding afterPlaced
+afterMedia now d s = let e = mediaEntry now d (s .queue) in afterPlaced now e (mediaPlace s (e .number)) s
 
 -- ---- a repair
 
@@ -129,8 +140,8 @@ repairFate s n =
 
 -- RFC 4588: the payload begins with the original number; what follows is the original payload
 unfoldable pub repairEntry : List ℕ → Queue → Entry
-repairEntry d q =
-    record { arrival = None; timestamp = extendedTimestamp q (timestamp d); number = extendedNumber q (originalNumber (payloadOf d)); marker = marker d; payload = originalPayload (payloadOf d) }
+unfolding extendedEntry
+repairEntry d q = extendedEntry q None (timestamp d) (originalNumber (payloadOf d)) (marker d) (originalPayload (payloadOf d))
 
 -- the repair state with the sample that the repair of a number yields
 abbrev pub sampled : ℕ → Opt → RtxState → RtxState

@@ -13,9 +13,11 @@ use Rattle.config.specs.Valid.{settingsValid, sendersValid}
 use Rattle.rtp_packet.specs.Header.{payloadOf}
 use Rattle.rtp_packet.specs.Datagram.{LARGEST-PAYLOAD, LARGEST-REPAIR, datagramRefusal}
 use Rattle.rtp_packet.specs.Original.{originalRefusal}
+use Rattle.rtx_state.specs.declared.RtxState.{RtxState}
 use Rattle.model.specs.declared.Config.{Config}
 use Rattle.model.specs.declared.LastReceived.{LastReceived}
 use Rattle.model.specs.declared.LastReceived.the-variants as LastReceived
+use Rattle.model.specs.declared.Counters.{Counters}
 use Rattle.model.specs.declared.Queue.{Queue}
 use Rattle.model.specs.Lists.{some?}
 use Rattle.model.specs.Records.{Entry, Gap, State}
@@ -73,12 +75,9 @@ nackCountRefusal due = refuseIf (some? (λ (g : Gap). leb (2 ^ 32 - 1) (g .nacks
 
 -- ---- a media packet
 
-unfoldable pub mediaValues : ℕ → Entry → Place → State → List ℕ
-mediaValues now e p s =
-    let c = s .queue .counters in
-    let raised =
-    cond (waits p) ((c .received + 1) ∷ (c .bytes + length (e .payload)) ∷ cond (overfull (afterQueued now e p s)) ((c .dropped + 1) ∷ []) []) ((c .dropped + 1) ∷ []) in
-    e .timestamp ∷ e .number ∷ raised
+-- 14: the counters that a packet of this size would raise
+unfoldable pub mediaValues : Counters → ℕ → Bool → Bool → List ℕ
+mediaValues c size waits overfull = cond waits ((c .received + 1) ∷ (c .bytes + size) ∷ cond overfull ((c .dropped + 1) ∷ []) []) ((c .dropped + 1) ∷ [])
 
 -- 12: "s from 2 to 1,000, packet would be queued, open gaps + s − 1 over G"
 unfoldable pub tooManyGaps : Settings → List Gap → ℕ → Place → Bool
@@ -88,40 +87,54 @@ tooManyGaps set gaps n (far h) = false
 tooManyGaps set gaps n fills = false
 tooManyGaps set gaps n other = false
 
+-- 14, then 12
+unfoldable pub packetRefusal : ℕ → Entry → Place → State → ℕ
+packetRefusal now e p s =
+    let q = s .queue in
+    orElse (countRefusal (e .timestamp ∷ e .number ∷ mediaValues (q .counters) (length (e .payload)) (waits p) (overfull (afterQueued now e p s))))
+    (refuseIf (tooManyGaps (q .config .settings) (s .gaps) (e .number) p) GAPS-FULL)
+
 unfoldable pub mediaRefusal : ℕ → List ℕ → State → ℕ
 mediaRefusal now d s =
     let q = s .queue in
     let e = mediaEntry now d q in
-    let p = mediaPlace s (e .number) in
     orElse (clockRefusal q now)
     (orElse (datagramRefusal (q .config .senders .pt) (q .config .senders .ssrc .0) LARGEST-PAYLOAD d)
-    (orElse (countRefusal (mediaValues now e p s))
-    (refuseIf (tooManyGaps (q .config .settings) (s .gaps) (e .number) p) GAPS-FULL)))
+    (packetRefusal now e (mediaPlace s (e .number)) s))
 
 -- ---- a repair
 
-unfoldable pub fateValues : Entry → Fate → Queue → List ℕ
-fateValues e tooLate q = (q .rtx .«received_too_late» + 1) ∷ []
-fateValues e redundant q = (q .rtx .«received_redundant» + 1) ∷ []
-fateValues e recovered q = (q .rtx .«received_in_time» + 1) ∷ (q .rtx .«bytes_received» + length (e .payload)) ∷ []
+-- 10, then 11
+unfoldable pub originalNumberRefusal : Queue → List ℕ → ℕ
+originalNumberRefusal q payload = orElse (mediaFirstRefusal q) (originalRefusal payload)
 
--- 13: "repair would be inserted with 2 · D entries held"
-unfoldable pub noPlace : State → Fate → Bool
-noPlace s tooLate = false
-noPlace s redundant = false
-noPlace s recovered = leb (entryPlaces (s .queue .config .settings)) (length (s .entries))
+-- 14: the counters that a repair of this size would raise
+unfoldable pub fateValues : RtxState → ℕ → Fate → List ℕ
+fateValues r size tooLate = (r .«received_too_late» + 1) ∷ []
+fateValues r size redundant = (r .«received_redundant» + 1) ∷ []
+fateValues r size recovered = (r .«received_in_time» + 1) ∷ (r .«bytes_received» + size) ∷ []
+
+-- 13: "repair would be inserted with 2 · D entries held", of so many places
+unfoldable pub noPlace : ℕ → ℕ → Fate → Bool
+noPlace places entries tooLate = false
+noPlace places entries redundant = false
+noPlace places entries recovered = leb places entries
+
+-- 14, then 13
+unfoldable pub fateRefusal : Entry → Fate → State → ℕ
+fateRefusal e f s =
+    let q = s .queue in
+    orElse (countRefusal (e .timestamp ∷ e .number ∷ fateValues (q .rtx) (length (e .payload)) f))
+    (refuseIf (noPlace (entryPlaces (q .config .settings)) (length (s .entries)) f) ENTRIES-FULL)
 
 unfoldable pub repairRefusal : ℕ → List ℕ → State → ℕ
 repairRefusal now d s =
     let q = s .queue in
     let e = repairEntry d q in
-    let f = repairFate s (e .number) in
     orElse (clockRefusal q now)
     (orElse (rtxRefusal q)
     (orElse (datagramRefusal (q .config .senders .«rtx_pt») (q .config .senders .«rtx_ssrc» .0) LARGEST-REPAIR d)
-    (orElse (mediaFirstRefusal q)
-    (orElse (originalRefusal (payloadOf d))
-    (orElse (countRefusal (e .timestamp ∷ e .number ∷ fateValues e f q)) (refuseIf (noPlace s f) ENTRIES-FULL))))))
+    (orElse (originalNumberRefusal q (payloadOf d)) (fateRefusal e (repairFate s (e .number)) s))))
 
 -- ---- `poll` and `poll_nack`
 

@@ -1,7 +1,7 @@
 -- 01's table, row 16, but for the storage lengths and the settings: what makes a stored session sound.
 use mathlib.Core.Bool.{Bool, true, false, _&&_, not}
 use mathlib.Core.List.{List}
-use Prim.Native.Nat.{ℕ, _*_}
+use Prim.Native.Nat.{ℕ}
 use lib.Dec.{leb, ltb}
 use lib.ListN.{length}
 use Rattle.words.specs.Order.{ascends}
@@ -12,14 +12,21 @@ use Rattle.rtp_packet.specs.Datagram.{LARGEST-PAYLOAD}
 use Rattle.rtx_state.specs.Repair.{rtxInRange}
 use Rattle.jitter.specs.Interarrival.{jitterInRange}
 use Rattle.packet_loss.specs.Loss.{lossInRange}
+use Rattle.config.specs.declared.Settings.{Settings}
 use Rattle.model.specs.declared.LastReceived.{LastReceived}
 use Rattle.model.specs.declared.LastReceived.the-variants as LastReceived
 use Rattle.model.specs.declared.Counters.{Counters}
 use Rattle.model.specs.declared.Queue.{Queue}
+use Rattle.model.specs.declared.Bounds.{Bounds}
 use Rattle.model.specs.Lists.{some?, every?}
 use Rattle.model.specs.Records.{Entry, Gap, Remembered, State, entryNumbers, gapNumbers, highestOf, returnedOf}
 use Rattle.model.specs.Rules.{is, MAX-LOST-NACKED}
-use Rattle.model.specs.Push.{passed}
+use Rattle.model.specs.Push.{atOrBelow, passedOf}
+use Rattle.model.specs.Storage.{entryPlaces}
+
+unfoldable pub boundsOf : Queue → Bounds
+unfolding passedOf
+boundsOf q = record { passed = passedOf (q .config .settings .mode) (returnedOf (q .returned)); highest = highestOf (q .last); clock = q .clock }
 
 -- not "above the highest", nor "before any media packet"
 unfoldable pub atMost : Opt → ℕ → Bool
@@ -32,29 +39,44 @@ under None n = false
 under (Some h) n = ltb n h
 
 -- "in sorted mode not above the last returned" is damage
-unfoldable pub notPassed : Queue → ℕ → Bool
-notPassed q n = not (passed (q .config .settings .mode) (returnedOf (q .returned)) n)
+unfoldable pub notPassed : Opt → ℕ → Bool
+notPassed passed n = not (atOrBelow n passed)
 
 -- none, or not after the clock's
 unfoldable pub byClock : ℕ → Opt → Bool
 byClock clock None = true
 byClock clock (Some i) = leb i clock
 
--- a number is bounded by the highest, which is bounded below
-unfoldable pub entrySound : Queue → List Gap → Entry → Bool
-entrySound q gaps e =
-    atMost (highestOf (q .last)) (e .number)
-    && (notPassed q (e .number)
-    && (not (some? (is (e .number)) gaps)
-    && (leb (e .timestamp) largest
-    && (byClock (q .clock) (e .arrival)
-    && leb (length (e .payload)) LARGEST-PAYLOAD))))
+unfoldable pub gapSound : Bounds → Gap → Bool
+gapSound b g = under (b .highest) (g .number) && (notPassed (b .passed) (g .number) && (leb (g .detected) (b .clock) && leb (g .nackedAt) (b .clock)))
 
-unfoldable pub gapSound : Queue → Gap → Bool
-gapSound q g = under (highestOf (q .last)) (g .number) && (notPassed q (g .number) && (leb (g .detected) (q .clock) && leb (g .nackedAt) (q .clock)))
+abbrev pub gapsSound : Bounds → List Gap → Bool
+gapsSound b gaps = ascends (gapNumbers gaps) && every? (gapSound b) gaps
 
-unfoldable pub rememberedSound : Queue → Remembered → Bool
-rememberedSound q r = leb (r .number) largest && leb (r .nackedAt) (q .clock)
+-- of an entry's fields and its payload's size; `missing` says that a gap has its number. The number is bounded by the highest, which is
+-- bounded below.
+unfoldable pub fieldsSound : Bounds → Bool → ℕ → ℕ → Opt → ℕ → Bool
+fieldsSound b missing number timestamp arrival size =
+    atMost (b .highest) number
+    && (notPassed (b .passed) number
+    && (not missing
+    && (leb timestamp largest
+    && (byClock (b .clock) arrival
+    && leb size LARGEST-PAYLOAD))))
+
+abbrev pub entrySound : Bounds → List Gap → Entry → Bool
+entrySound b gaps e = fieldsSound b (some? (is (e .number)) gaps) (e .number) (e .timestamp) (e .arrival) (length (e .payload))
+
+abbrev pub entriesSound : Bounds → List Gap → List Entry → Bool
+entriesSound b gaps entries = ascends (entryNumbers entries) && every? (entrySound b gaps) entries
+
+unfoldable pub rememberedSound : ℕ → Remembered → Bool
+rememberedSound clock r = leb (r .number) largest && leb (r .nackedAt) clock
+
+unfoldable pub listsSound : State → Bool
+listsSound s =
+    let b = boundsOf (s .queue) in
+    gapsSound b (s .gaps) && (entriesSound b (s .gaps) (s .entries) && every? (rememberedSound (s .queue .clock)) (s .remembered))
 
 unfoldable pub lastSound : ℕ → LastReceived → Bool
 lastSound clock LastReceived.None = true
@@ -77,17 +99,10 @@ queueSound q =
     && lossInRange (q .loss)))))
 
 -- "more than 2 · D entries, G gaps or 1,024 remembered"
-unfoldable pub countsFit : State → Bool
-countsFit s =
-    let set = s .queue .config .settings in
-    leb (length (s .entries)) (2 * set .«max_entries») && (leb (length (s .gaps)) (set .«max_gaps») && leb (length (s .remembered)) MAX-LOST-NACKED)
+unfoldable pub countsFit : Settings → ℕ → ℕ → ℕ → Bool
+countsFit set entries gaps remembered = leb entries (entryPlaces set) && (leb gaps (set .«max_gaps») && leb remembered MAX-LOST-NACKED)
 
 unfoldable pub sound : State → Bool
 sound s =
-    countsFit s
-    && (queueSound (s .queue)
-    && (ascends (gapNumbers (s .gaps))
-    && (every? (gapSound (s .queue)) (s .gaps)
-    && (ascends (entryNumbers (s .entries))
-    && (every? (entrySound (s .queue) (s .gaps)) (s .entries)
-    && every? (rememberedSound (s .queue)) (s .remembered))))))
+    countsFit (s .queue .config .settings) (length (s .entries)) (length (s .gaps)) (length (s .remembered))
+    && (queueSound (s .queue) && listsSound s)

@@ -18,57 +18,36 @@ use Rattle.rtx_state.specs.declared.OptRtt.the-variants as OptRtt
 use Rattle.rtx_state.specs.RoundTrip.{optRttInRange}
 use Rattle.rtx_state.proofs.Range.{delay-lt}
 use Rattle.config.specs.declared.Settings.{Settings}
-use Rattle.config.specs.declared.RtpInboundQueueMode.{RtpInboundQueueMode}
-use Rattle.config.specs.declared.RtpInboundQueueMode.the-variants.{Passthrough, SortedQueue}
 use Rattle.config.specs.Timings.{resendDelayOf, nackTimings}
 use Rattle.config.specs.Valid.{longest}
-use Rattle.model.specs.declared.LastReturned.{LastReturned}
-use Rattle.model.specs.declared.Queue.{Queue}
 use Rattle.model.specs.Lists.{leading, trailing, every?}
-use Rattle.model.specs.Records.{Gap, gapNumbers, returnedOf, highestOf}
+use Rattle.model.specs.Records.{Gap, gapNumbers}
 use Rattle.model.specs.Rules.{gapsBelow, gapsFrom}
-use Rattle.model.specs.Push.{passed, atOrBelow}
+use Rattle.model.specs.Push.{passed}
 use Rattle.model.specs.Valid.{under, notPassed, gapSound}
 use Rattle.model.specs.Storage.{GAP-WORDS, gapWords, gapOfWords, gapsOf}
 use Rattle.model.proofs.Laid.{gaps-held, gap-coded}
 use Rattle.packet_gaps.specs.Gaps.{GapsIn, Small, instantsFit}
-use Rattle.packet_gaps.specs.Sound.{passedOf, boundsOf, gapWithin}
+use Rattle.model.specs.declared.Bounds.{Bounds}
 use Rattle.packet_gaps.proofs.Laws.{below-front}
 use Rattle.packet_gaps.proofs.Turns.{every-weaker}
 
 -- ---- check 16
 
-pub passed-is : (mode : RtpInboundQueueMode) (r : LastReturned) (n : ℕ) → passed mode (returnedOf r) n ≡ atOrBelow n (passedOf mode r)
-unfolding passed passedOf atOrBelow
-passed-is Passthrough r n = refl
-passed-is SortedQueue r n = refl
-
-pub sound-is : (q : Queue) (g : Gap) → gapSound q g ≡ gapWithin (boundsOf q) g
-unfolding gapSound gapWithin boundsOf notPassed
-sound-is q g = rw (passed-is (q .config .settings .mode) (q .returned) (g .number))
-
-pub every-same : {A : Type 0} (p q : A → Bool) → ((x : A) → p x ≡ q x) → (xs : List A) → every? p xs ≡ every? q xs
-unfolding every?
-every-same p q e [] = refl
-every-same p q e (x ∷ xs) = rw (e x, every-same p q e xs)
-
-pub all-sound : (q : Queue) (gs : List Gap) → every? (gapSound q) gs ≡ every? (gapWithin (boundsOf q)) gs
-all-sound q gs = every-same (gapSound q) (gapWithin (boundsOf q)) (sound-is q) gs
-
 -- sound gaps have instants that fit
-pub sound-instants : (q : Queue) (gs : List Gap) → q .clock ≤ largest → every? (gapSound q) gs ≡ true → every? instantsFit gs ≡ true
+pub sound-instants : (b : Bounds) (gs : List Gap) → b .clock ≤ largest → every? (gapSound b) gs ≡ true → every? instantsFit gs ≡ true
 unfolding gapSound instantsFit
-sound-instants q gs c e = every-weaker (gapSound q) instantsFit one gs e
+sound-instants b gs c e = every-weaker (gapSound b) instantsFit one gs e
   where
-    one : (g : Gap) → gapSound q g ≡ true → instantsFit g ≡ true
+    one : (g : Gap) → gapSound b g ≡ true → instantsFit g ≡ true
     one g f =
-        let u : Bool = under (highestOf (q .last)) (g .number) in
-        let p : Bool = notPassed q (g .number) in
-        let d : Bool = leb (g .detected) (q .clock) in
-        let a : Bool = leb (g .nackedAt) (q .clock) in
+        let u : Bool = under (b .highest) (g .number) in
+        let p : Bool = notPassed (b .passed) (g .number) in
+        let d : Bool = leb (g .detected) (b .clock) in
+        let a : Bool = leb (g .nackedAt) (b .clock) in
         let x : (d && a) ≡ true = and-right p (d && a) (and-right u (p && (d && a)) f) in
-        let hd = leb-true (g .detected) (q .clock) (and-left d a x) in
-        let ha = leb-true (g .nackedAt) (q .clock) (and-right d a x) in
+        let hd = leb-true (g .detected) (b .clock) (and-left d a x) in
+        let ha = leb-true (g .nackedAt) (b .clock) (and-right d a x) in
         rw (le-leb (g .detected) largest (omega arith), le-leb (g .nackedAt) largest (omega arith))
 
 -- ---- NACKs

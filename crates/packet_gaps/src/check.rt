@@ -1,34 +1,22 @@
 // 01's check 16 on the gaps, and tidying: what every call does before anything else.
 ghost use mathlib.Core.Path.{_≡_};
-ghost use mathlib.Core.Bool.{_&&_, not};
 ghost use Prim.Native.Nat.{_*_, _≤_};
 ghost use lib.ListN.{length};
 ghost use Rattle.words.specs.Blocks.{laid};
-ghost use Rattle.words.specs.Order.{ascends};
-ghost use Rattle.model.specs.Lists.{every?};
-ghost use Rattle.model.specs.Records.{gapNumbers, highestOf};
-ghost use Rattle.model.specs.Push.{atOrBelow};
-ghost use Rattle.model.specs.Valid.{under};
+ghost use Rattle.model.specs.Records.{highestOf, returnedOf};
+ghost use Rattle.model.specs.Push.{passedOf};
+ghost use Rattle.model.specs.Valid.{boundsOf, under, notPassed, gapSound, gapsSound};
 ghost use Rattle.model.specs.Storage.{GAP-WORDS, gapWords, gapsOf};
 ghost use Rattle.packet_gaps.specs.Gaps.{gap};
-ghost use Rattle.packet_gaps.specs.Sound.{boundsOf, passedOf, gapWithin};
 use super::GAP_WORDS;
 use super::Gap;
 use config::RtpInboundQueueMode;
+use model::Bounds;
 use model::LastReceived;
 use model::LastReturned;
 use model::Queue;
 use rtp::ExtendedSequenceNumber;
 use rtp::opt::Opt;
-
-// Between which numbers the gaps and entries of a session lie, and its clock.
-pub struct Bounds {
-    // They are above this.
-    pub passed: Opt,
-    // No higher one has come.
-    pub highest: Opt,
-    pub clock: u64,
-}
 
 fn highest_of(last: LastReceived) -> Opt
     ensures { λ r. ⌜ r ≡ highestOf last ⌝ }
@@ -40,7 +28,7 @@ fn highest_of(last: LastReceived) -> Opt
 }
 
 fn passed_of(mode: RtpInboundQueueMode, returned: LastReturned) -> Opt
-    ensures { λ r. ⌜ r ≡ passedOf mode returned ⌝ }
+    ensures { λ r. ⌜ r ≡ passedOf mode (returnedOf returned) ⌝ }
 {
     match mode {
         RtpInboundQueueMode::Passthrough => Opt::None,
@@ -70,7 +58,7 @@ pub fn bounds_of(q: Queue) -> Bounds
 
 // Whether x is above `low`, where there is one.
 pub fn above(low: Opt, x: ExtendedSequenceNumber) -> bool
-    ensures { λ r. ⌜ r ≡ not (atOrBelow (x .0) low) ⌝ }
+    ensures { λ r. ⌜ r ≡ notPassed low (x .0) ⌝ }
 {
     match low {
         Opt::None => true,
@@ -87,8 +75,8 @@ fn below_highest(highest: Opt, x: ExtendedSequenceNumber) -> bool
     }
 }
 
-fn gap_within(b: Bounds, g: Gap) -> bool
-    ensures { λ r. ⌜ r ≡ gapWithin b (gap g) ⌝ }
+fn gap_sound(b: Bounds, g: Gap) -> bool
+    ensures { λ r. ⌜ r ≡ gapSound b (gap g) ⌝ }
 {
     let highest = b.highest;
     let passed = b.passed;
@@ -96,15 +84,15 @@ fn gap_within(b: Bounds, g: Gap) -> bool
         & (above(passed, g.number) & ((g.detected <= b.clock) & (g.nacked_at <= b.clock)))
 }
 
-// Whether the numbers of the n gaps ascend, and each gap is within the bounds.
+// Whether the numbers of the n gaps ascend, and each gap keeps to the bounds.
 pub fn are_sound(s: &[u64], n: usize, b: Bounds) -> bool
     requires { ⌜ GAP-WORDS * n ≤ length (now s) ⌝ }
-    ensures { λ r. ⌜ r ≡ (ascends (gapNumbers (gapsOf (now (s .entry)) n)) && every? (gapWithin b) (gapsOf (now (s .entry)) n)) ⌝ }
+    ensures { λ r. ⌜ r ≡ gapsSound b (gapsOf (now (s .entry)) n) ⌝ }
 {
     let mut i = 0;
     while i < n {
         let g = super::read(s, i);
-        if !gap_within(b, g) {
+        if !gap_sound(b, g) {
             return false;
         }
         let next = i + 1;

@@ -20,9 +20,9 @@ use Rattle.model.specs.declared.Queue.{Queue}
 use Rattle.model.specs.declared.Session.{Session}
 use Rattle.model.specs.Records.{Entry, Gap, State, gapNumbers, highestOf, withLoss, withCounters, withLast, withReturned}
 use Rattle.model.specs.Rules.{is, without, gapsFrom, fresh, Place, near, waits, between, gapsAfter}
-use Rattle.model.specs.Push.{insertSorted, mediaPlace, heard, lastAfter, countDropped, countReceived, afterQueued, afterDropped, frontOut, overfull, withinDepth}
+use Rattle.model.specs.Push.{insertSorted, mediaPlace, heard, lastAfter, countDropped, countReceived, afterQueued, afterDropped, frontOut, overfull, withinDepth, afterPlaced}
 use Rattle.model.specs.Storage.{Stored, GAP-WORDS, entryWords, payloadBytes, gapWords, entryPlaces, entriesOf, gapsOf, entriesLaid, payloadsLaid, gapsLaid, rememberedLaid, parse, write}
-use Rattle.model.specs.Table.{mediaValues, tooManyGaps, countRefusal, refuseIf}
+use Rattle.model.specs.Table.{mediaValues, tooManyGaps, countRefusal, refuseIf, packetRefusal}
 use Rattle.model.proofs.Lists.{Each, each-first, each-rest, each-imp, each-map, each-following, by-nand, Rising, empty, rising-keep, rising-append, rising-map, rising-following, ascends-of-rising, length-keep, length-insert}
 use Rattle.model.proofs.Laid.{gap-wide, length-words, gapsOf-laid, length-entriesOf, length-gapsOf, length-rememberedOf}
 use Rattle.model.proofs.Sound.{Under}
@@ -35,7 +35,7 @@ use Rattle.entries.specs.Entries.{entry, firstNumber}
 use Rattle.session.specs.declared.push.Place as Code
 use Rattle.session.specs.Place.{place}
 use Rattle.model.specs.Contract.{stored}
-use Rattle.push.specs.Media.{Counts, Takes, Fit, packetRefusal, placed}
+use Rattle.push.specs.Media.{Counts, Takes, Fit}
 use Rattle.storage.proofs.Settled.{Ready, holding}
 use Rattle.push.proofs.Placing.{length-opened}
 
@@ -77,15 +77,10 @@ deep d n = go (ltb d (suc n)) refl
     go false e = sym (lt-leb d n (omega (arith, ltb-false d (suc n) e)))
 
 module _ (s : Session) (e : Row.Entry) (p : Code.Place) where
-  abbrev raisedBy : Bool → List ℕ
-  raisedBy w =
-      let c = s .queue .counters in
-      cond w ((c .received + 1) ∷ (c .bytes + e .size) ∷ cond (leb (s .queue .config .settings .«max_entries») (s .entries)) ((c .dropped + 1) ∷ []) []) ((c .dropped + 1) ∷ [])
-
-  pub packet-refusal-is : (r a b : ℕ) (w : Bool) → r ≡ orElse a b → w ≡ waits (place p) → a ≡ countRefusal (e .timestamp .0 ∷ e .number .0 ∷ raisedBy w)
+  pub packet-refusal-is : (r a b : ℕ) (w : Bool) → r ≡ orElse a b → w ≡ waits (place p) → a ≡ countRefusal (e .timestamp .0 ∷ e .number .0 ∷ mediaValues (s .queue .counters) (e .size) w (leb (s .queue .config .settings .«max_entries») (s .entries)))
       → ((l : List Gap) → length l ≡ s .gaps → b ≡ refuseIf (tooManyGaps (s .queue .config .settings) l (e .number .0) (place p)) GAPS-FULL)
       → (instant : ℕ) (payload : List ℕ) (st : State) → Counts s st → length payload ≡ e .size → r ≡ packetRefusal instant (entry e payload) (place p) st
-  unfolding packetRefusal mediaValues overfull afterQueued heard
+  unfolding packetRefusal overfull afterQueued heard
   packet-refusal-is r a b w hr hw ha hb instant payload st k size =
       let n : length (insertSorted (entry e payload) (st .entries)) ≡ suc (s .entries) = length-insert (entry e payload) (st .entries) ∙ ap suc (k .entries) in
       hr ∙ rw (ha, hw, hb (st .gaps) (k .gaps), k .queue, n, size, deep)
@@ -99,13 +94,16 @@ module _ (instant : ℕ) (e : Row.Entry) (payload : List ℕ) (p : Code.Place) (
   pub ready-for : Ready m (m .storage .entries) (m .storage .payloads) (m .storage .gaps) (m .storage .remembered)
   ready-for = holding m (f .settled)
 
-  values : Each (λ v. v ≤ largest) (mediaValues instant x (place p) (parse m))
+  abbrev raises : List ℕ
+  raises = x .timestamp ∷ x .number ∷ mediaValues (parse m .queue .counters) (length payload) (waits (place p)) (overfull (afterQueued instant x (place p) (parse m)))
+
+  values : Each (λ v. v ≤ largest) raises
   unfolding packetRefusal
-  values = counts-of (mediaValues instant x (place p) (parse m)) (orElse-none _ _ (f .accepted) .0)
+  values = counts-of raises (orElse-none _ _ (f .accepted) .0)
 
   few-gaps : T (not (tooManyGaps (parse m .queue .config .settings) (parse m .gaps) (e .number .0) (place p)))
   unfolding packetRefusal
-  few-gaps = not-refused _ GAPS-FULL (lit< tt) (orElse-none (countRefusal (mediaValues instant x (place p) (parse m))) _ (f .accepted) .1)
+  few-gaps = not-refused _ GAPS-FULL (lit< tt) (orElse-none (countRefusal raises) _ (f .accepted) .1)
 
   pub dropped-fits : waits (place p) ≡ false → m .session .queue .counters .dropped < largest
   unfolding mediaValues parse
@@ -163,8 +161,8 @@ module _ (instant : ℕ) (e : Row.Entry) (payload : List ℕ) (p : Code.Place) (
     over-is = ap (ltb (m .session .queue .config .settings .«max_entries»)) (length-insert x _ ∙ ap suc (length-entriesOf (m .storage .entries) (m .storage .payloads) (m .session .entries)))
 
     -- below the depth
-    placed-below : m .session .entries < m .session .queue .config .settings .«max_entries» → placed instant x (place p) (parse m) ≡ after
-    unfolding placed withinDepth
+    placed-below : m .session .entries < m .session .queue .config .settings .«max_entries» → afterPlaced instant x (place p) (parse m) ≡ after
+    unfolding afterPlaced withinDepth
     placed-below low =
         let o : overfull after ≡ false = over-is ∙ le-ltb _ _ low in
         rw (w, o)
@@ -186,7 +184,7 @@ module _ (instant : ℕ) (e : Row.Entry) (payload : List ℕ) (p : Code.Place) (
       pub inserted-packet : m .session .entries < m .session .queue .config .settings .«max_entries» → (es ps : List ℕ)
           → es ≡ laid entryWords (length (m .storage .entries)) (insertSorted x (entriesOf (m .storage .entries) (m .storage .payloads) (m .session .entries)))
           → ps ≡ laid payloadBytes (length (m .storage .payloads)) (insertSorted x (entriesOf (m .storage .entries) (m .storage .payloads) (m .session .entries)))
-          → stored (record { queue = q; entries = m .session .entries + 1; gaps = k; remembered = m .session .remembered }) es ps gs (m .storage .remembered) ≡ write (placed instant x (place p) (parse m))
+          → stored (record { queue = q; entries = m .session .entries + 1; gaps = k; remembered = m .session .remembered }) es ps gs (m .storage .remembered) ≡ write (afterPlaced instant x (place p) (parse m))
       unfolding afterQueued heard parse laid entriesLaid payloadsLaid gapsLaid
       inserted-packet low es ps he hp =
           let l = ready-for .lengths in
@@ -204,8 +202,8 @@ module _ (instant : ℕ) (e : Row.Entry) (payload : List ℕ) (p : Code.Place) (
       at-depth : overfull after ≡ true
       at-depth = over-is ∙ lt-ltb (m .session .queue .config .settings .«max_entries») (suc (m .session .entries)) (omega arith)
 
-      placed-over : placed instant x (place p) (parse m) ≡ record { queue = withReturned (withCounters (after .queue) (countDropped (after .queue .counters))) (firstNumber grown); entries = drop 1 grown; gaps = gapsFrom (firstNumber grown) (after .gaps); remembered = after .remembered }
-      unfolding placed withinDepth afterQueued
+      placed-over : afterPlaced instant x (place p) (parse m) ≡ record { queue = withReturned (withCounters (after .queue) (countDropped (after .queue .counters))) (firstNumber grown); entries = drop 1 grown; gaps = gapsFrom (firstNumber grown) (after .gaps); remembered = after .remembered }
+      unfolding afterPlaced withinDepth afterQueued
       placed-over = let o : overfull after ≡ true = at-depth in rw (w, o) (frontOut-is grown after (omega (arith, length-insert x (parse m .entries))))
 
       front-fits : m .session .queue .counters .dropped < largest
@@ -265,7 +263,7 @@ module _ (instant : ℕ) (e : Row.Entry) (payload : List ℕ) (p : Code.Place) (
           → es ≡ laid entryWords (length (m .storage .entries)) (drop 1 (insertSorted x (entriesOf (m .storage .entries) (m .storage .payloads) (m .session .entries))))
           → ps ≡ laid payloadBytes (length (m .storage .payloads)) (drop 1 (insertSorted x (entriesOf (m .storage .entries) (m .storage .payloads) (m .session .entries))))
           → k2 ≡ length (gapsFrom front (gapsOf gs k)) → gs2 ≡ laid gapWords (length gs) (gapsFrom front (gapsOf gs k))
-          → stored (record { queue = q2; entries = m .session .entries; gaps = k2; remembered = m .session .remembered }) es ps gs2 (m .storage .remembered) ≡ write (placed instant x (place p) (parse m))
+          → stored (record { queue = q2; entries = m .session .entries; gaps = k2; remembered = m .session .remembered }) es ps gs2 (m .storage .remembered) ≡ write (afterPlaced instant x (place p) (parse m))
       unfolding afterQueued heard parse laid entriesLaid payloadsLaid gapsLaid
       pushed-out-packet hq2 hf he hp hk2 hg2 =
           let l = ready-for .lengths in
@@ -283,8 +281,8 @@ module _ (instant : ℕ) (e : Row.Entry) (payload : List ℕ) (p : Code.Place) (
   -- ---- dropped, or queued
 
   pub dropped-packet : waits (place p) ≡ false → (q : Queue) → q ≡ withCounters (heard instant (e .timestamp .0) (m .session .queue)) (countDropped (m .session .queue .counters))
-      → stored (record { queue = q; entries = m .session .entries; gaps = m .session .gaps; remembered = m .session .remembered }) (m .storage .entries) (m .storage .payloads) (m .storage .gaps) (m .storage .remembered) ≡ write (placed instant x (place p) (parse m))
-  unfolding placed afterDropped heard parse write
+      → stored (record { queue = q; entries = m .session .entries; gaps = m .session .gaps; remembered = m .session .remembered }) (m .storage .entries) (m .storage .payloads) (m .storage .gaps) (m .storage .remembered) ≡ write (afterPlaced instant x (place p) (parse m))
+  unfolding afterPlaced afterDropped heard parse write
   dropped-packet w q hq =
       written-as (afterDropped instant (e .timestamp .0) (parse m)) (record { queue = q; entries = m .session .entries; gaps = m .session .gaps; remembered = m .session .remembered }) (m .storage .entries) (m .storage .payloads) (m .storage .gaps) (m .storage .remembered)
       hq (ap (λ (y : Stored). y .session .entries) (f .settled .held)) (ap (λ (y : Stored). y .session .gaps) (f .settled .held)) (ap (λ (y : Stored). y .session .remembered) (f .settled .held))

@@ -15,18 +15,18 @@ use Rattle.rtp_packet.specs.Header.{between, payloadOf}
 use Rattle.rtp_packet.specs.Datagram.{LARGEST-PAYLOAD, datagramRefusal, packetOf}
 use Rattle.rtp_packet.proofs.Bounds.{payload-of-packet}
 use Rattle.model.specs.Records.{State}
-use Rattle.model.specs.Push.{mediaEntry, mediaPlace, afterMedia}
+use Rattle.model.specs.Push.{extendedEntry, mediaEntry, mediaPlace, afterPlaced, afterMedia}
 use Rattle.model.specs.Storage.{Stored, arrivalWord, parse, write}
 use Rattle.model.specs.Calls as Calls
-use Rattle.model.specs.Calls.{Answer, media, answered, taken, outputOf, outputAfter}
-use Rattle.model.specs.Table.{refusal, callRefusal, mediaRefusal, clockRefusal, sessionSound, sessionRefusal}
+use Rattle.model.specs.Calls.{Answer, media, placedAnswer, answered, taken, outputOf, outputAfter}
+use Rattle.model.specs.Table.{refusal, callRefusal, packetRefusal, mediaRefusal, clockRefusal, sessionSound, sessionRefusal}
 use Rattle.model.specs.Did.{Done, did, accepted, turnedBack}
 use Rattle.model.proofs.Laid.{parse-entries, parse-gaps}
 use Rattle.entries.specs.declared.Entry as Row
 use Rattle.entries.specs.Entries.{entry, Incoming}
 use Rattle.session.specs.declared.push.Place as Code
 use Rattle.session.specs.Place.{place}
-use Rattle.push.specs.Media.{Counts, Fit, entryOf, packetRefusal, placed, placedAnswer, didPlace, didPacket}
+use Rattle.push.specs.Media.{Counts, Fit, didPlace, didPacket}
 use Rattle.storage.proofs.Settled.{assoc, refused-is, settled-of}
 
 pub counts-are : (m : Stored) → Counts (m .session) (parse m)
@@ -54,7 +54,7 @@ module _ (instant : ℕ) (e : Row.Entry) (payload : List ℕ) (p : Code.Place) (
   unfolding didPacket didPlace
   place-refused k hk h = rw (← at, ← hk, ne-eqb k 0 h)
 
-  pub place-accepted : (m2 after : Stored) (a : Answer) → sessionSound m ≡ true → m2 ≡ write (parse m) → packetRefusal instant (entry e payload) (place p) (parse m) ≡ 0 → a ≡ placedAnswer (place p) → after ≡ write (placed instant (entry e payload) (place p) (parse m2))
+  pub place-accepted : (m2 after : Stored) (a : Answer) → sessionSound m ≡ true → m2 ≡ write (parse m) → packetRefusal instant (entry e payload) (place p) (parse m) ≡ 0 → a ≡ placedAnswer (place p) → after ≡ write (afterPlaced instant (entry e payload) (place p) (parse m2))
       → didPacket instant (entry e payload) m ≡ record { answer = a; stored = after; output = [] }
   unfolding didPacket didPlace
   place-accepted m2 after a h w z ha hw = rw (← at, eq-eqb (packetRefusal instant (entry e payload) (place p) (parse m)) 0 z, ha, hw, settled-of m m2 h w .1)
@@ -73,7 +73,7 @@ module _ (instant : ℕ) (d : List ℕ) (m : Stored) (r : ℕ) (e : r ≡ orElse
   later = packetRefusal instant (mediaEntry instant d (parse m .queue)) (mediaPlace (parse m) (mediaEntry instant d (parse m .queue) .number)) (parse m)
 
   chain : refusal (media instant d) m ≡ orElse r (orElse datagram later)
-  unfolding refusal callRefusal mediaRefusal packetRefusal parse
+  unfolding refusal callRefusal mediaRefusal parse
   chain = assoc (sessionRefusal m) (clockRefusal (m .session .queue) instant) _ ∙ rw (← e)
 
   pub media-early : (r ≡ 0 → ⊥) → did (media instant d) m ≡ record { answer = Calls.refused r; stored = m; output = [] }
@@ -86,12 +86,12 @@ module _ (instant : ℕ) (d : List ℕ) (m : Stored) (r : ℕ) (e : r ≡ orElse
     media-unread k hk h = refused-is (media instant d) m k (sym (chain ∙ orElse-second r _ z ∙ ap (λ (j : ℕ). orElse j later) hk ∙ orElse-first k later h)) h
 
     read-as : datagram ≡ 0 → did (media instant d) m ≡ didPacket instant (mediaEntry instant d (parse m .queue)) m
-    unfolding did accepted turnedBack answered taken outputOf outputAfter afterMedia placed placedAnswer didPlace didPacket
+    unfolding did accepted turnedBack answered taken outputOf outputAfter afterMedia didPlace didPacket
     read-as hk = rw (chain ∙ orElse-second r _ z ∙ orElse-second datagram later hk)
 
-    same-entry : mediaEntry instant d (parse m .queue) ≡ entryOf instant (m .session .queue) (packetOf d) (payloadOf d)
-    unfolding mediaEntry entryOf packetOf parse
+    same-entry : mediaEntry instant d (parse m .queue) ≡ extendedEntry (m .session .queue) (Some instant) (packetOf d .timestamp .0) (packetOf d .«sequence_number» .0) (packetOf d .marker) (payloadOf d)
+    unfolding mediaEntry packetOf parse
     same-entry = refl
 
-    pub media-read : (p : RtpPacket) (payload : List ℕ) (done : Done) → datagram ≡ 0 → p ≡ packetOf d → payload ≡ payloadOf d → didPacket instant (entryOf instant (m .session .queue) p payload) m ≡ done → did (media instant d) m ≡ done
+    pub media-read : (p : RtpPacket) (payload : List ℕ) (done : Done) → datagram ≡ 0 → p ≡ packetOf d → payload ≡ payloadOf d → didPacket instant (extendedEntry (m .session .queue) (Some instant) (p .timestamp .0) (p .«sequence_number» .0) (p .marker) payload) m ≡ done → did (media instant d) m ≡ done
     media-read p payload done hk hp hb h = read-as hk ∙ rw (same-entry, ← hp, ← hb) h

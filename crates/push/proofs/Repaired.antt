@@ -24,7 +24,7 @@ use Rattle.model.specs.Push.{passed, insertSorted, Fate, tooLate, recovered, re
 use Rattle.model.specs.Storage.{Stored, ENTRY-WORDS, PAYLOAD-BYTES, arrivalWord, entryWords, payloadBytes, gapWords, rememberedWords, entryPlaces, entriesOf, gapsOf, rememberedOf, entriesLaid, payloadsLaid, gapsLaid, rememberedLaid, parse, write}
 use Rattle.model.specs.Calls as Calls
 use Rattle.model.specs.Calls.{Answer}
-use Rattle.model.specs.Table.{countRefusal, refuseIf, fateValues, noPlace, sessionSound}
+use Rattle.model.specs.Table.{countRefusal, refuseIf, fateValues, noPlace, fateRefusal, sessionSound}
 use Rattle.model.proofs.Lists.{length-insert}
 use Rattle.model.proofs.Laid.{length-entriesOf, length-rememberedOf}
 use Rattle.model.proofs.SoundQueue.{not-refused}
@@ -32,11 +32,11 @@ use Rattle.entries.specs.declared.Entry as Row
 use Rattle.entries.specs.Entries.{entry, Incoming}
 use Rattle.session.specs.declared.rtx.Fate as Code
 use Rattle.session.specs.declared.rtx.Fate.the-variants as Variant
-use Rattle.session.specs.Place.{fate, raisedBy}
+use Rattle.session.specs.Place.{fate}
 use Rattle.model.specs.Contract.{stored}
 use Rattle.storage.specs.Settled.{Settled}
 use Rattle.push.specs.Media.{Counts}
-use Rattle.push.specs.Repair.{entriesRefusal, fateRefusal, leftAfter, didFate, didRepair, FitRepair}
+use Rattle.push.specs.Repair.{leftAfter, didFate, didRepair, FitRepair}
 use Rattle.storage.proofs.Settled.{Ready, holding, settled-of}
 use Rattle.push.proofs.Placing.{length-filled}
 use Rattle.push.proofs.Media.{written-as}
@@ -150,22 +150,10 @@ module _ (instant : ℕ) (e : Row.Entry) (payload : List ℕ) (m : Stored) (f : 
 
 -- ---- 14, then 13
 
-values-are : (e : Entry) (g : Fate) (q : Queue) → fateValues e g q ≡ raisedBy (q .rtx) (length (e .payload)) g
-unfolding fateValues raisedBy
-values-are e tooLate q = refl
-values-are e recovered q = refl
-values-are e redundant q = refl
-
-places-are : (s : State) (g : Fate) → refuseIf (noPlace s g) ENTRIES-FULL ≡ entriesRefusal (entryPlaces (s .queue .config .settings)) (length (s .entries)) g
-unfolding refuseIf noPlace entriesRefusal
-places-are s tooLate = refl
-places-are s recovered = refl
-places-are s redundant = refl
-
-pub fate-refusal-is : (s : Session) (e : Row.Entry) (f : Code.Fate) (r a b : ℕ) → r ≡ orElse a b → a ≡ countRefusal (e .timestamp .0 ∷ e .number .0 ∷ raisedBy (s .queue .rtx) (e .size) (fate f)) → b ≡ entriesRefusal (2 * s .queue .config .settings .«max_entries») (s .entries) (fate f)
+pub fate-refusal-is : (s : Session) (e : Row.Entry) (f : Code.Fate) (r a b : ℕ) → r ≡ orElse a b → a ≡ countRefusal (e .timestamp .0 ∷ e .number .0 ∷ fateValues (s .queue .rtx) (e .size) (fate f)) → b ≡ refuseIf (noPlace (entryPlaces (s .queue .config .settings)) (s .entries) (fate f)) ENTRIES-FULL
     → (payload : List ℕ) (st : State) → Counts s st → length payload ≡ e .size → r ≡ fateRefusal (entry e payload) (fate f) st
 unfolding fateRefusal
-fate-refusal-is s e f r a b hr ha hb payload st k size = hr ∙ rw (ha, hb, values-are, places-are, k .queue, k .entries, size)
+fate-refusal-is s e f r a b hr ha hb payload st k size = hr ∙ rw (ha, hb, k .queue, k .entries, size)
 
 -- ---- what `did` says
 

@@ -5,19 +5,20 @@ use mathlib.Core.List.{List, []}
 use Prim.Native.Nat.{ℕ}
 use lib.Dec.{eqb}
 use borrow.Author.Tests.{ne-eqb, eqb-true, eqb-false}
+use Rattle.rtp.specs.declared.opt.Opt.the-variants.{None}
 use Rattle.refusals.specs.Refusals.{orElse}
 use Rattle.refusals.proofs.Laws.{orElse-first, orElse-second}
 use Rattle.rtp_packet.specs.declared.RtpPacket.{RtpPacket}
 use Rattle.rtp_packet.specs.Header.{payloadOf}
 use Rattle.rtp_packet.specs.Datagram.{LARGEST-REPAIR, datagramRefusal, packetOf}
 use Rattle.rtp_packet.specs.Original.{originalRefusal, originalNumber, originalPayload}
-use Rattle.model.specs.Push.{repairEntry, repairFate, afterRepair}
+use Rattle.model.specs.Push.{extendedEntry, repairEntry, repairFate, afterRepair}
 use Rattle.model.specs.Storage.{Stored, parse}
 use Rattle.model.specs.Calls as Calls
 use Rattle.model.specs.Calls.{repair, answered, taken, outputOf, outputAfter}
-use Rattle.model.specs.Table.{refusal, callRefusal, repairRefusal, clockRefusal, rtxRefusal, mediaFirstRefusal, sessionRefusal}
+use Rattle.model.specs.Table.{refusal, callRefusal, originalNumberRefusal, fateRefusal, repairRefusal, clockRefusal, rtxRefusal, mediaFirstRefusal, sessionRefusal}
 use Rattle.model.specs.Did.{Done, did, accepted, turnedBack}
-use Rattle.push.specs.Repair.{originalEntry, fateRefusal, didFate, didRepair, didOriginal}
+use Rattle.push.specs.Repair.{didFate, didRepair, didOriginal}
 use Rattle.storage.proofs.Settled.{assoc, refused-is}
 
 -- ---- 10, then 11
@@ -27,16 +28,16 @@ module _ (instant : ℕ) (p : RtpPacket) (payload : List ℕ) (m : Stored) where
   first = mediaFirstRefusal (m .session .queue)
 
   pub original-early : (k : ℕ) → k ≡ first → (k ≡ 0 → ⊥) → didOriginal instant p payload m ≡ record { answer = Calls.refused k; stored = m; output = [] }
-  unfolding didOriginal
+  unfolding didOriginal originalNumberRefusal
   original-early k e h = let o : orElse first (originalRefusal payload) ≡ k = orElse-first first (originalRefusal payload) (λ (z : first ≡ 0). h (e ∙ z)) ∙ sym e in rw (o, ne-eqb k 0 h)
 
   module _ (z : first ≡ 0) where
     pub original-refused-is : (k : ℕ) → originalRefusal payload ≡ k → (k ≡ 0 → ⊥) → didOriginal instant p payload m ≡ record { answer = Calls.refused k; stored = m; output = [] }
-    unfolding didOriginal
+    unfolding didOriginal originalNumberRefusal
     original-refused-is k e h = let o : orElse first (originalRefusal payload) ≡ k = orElse-second first (originalRefusal payload) z ∙ e in rw (o, ne-eqb k 0 h)
 
-    pub original-is : (n : ℕ) (rest : List ℕ) (done : Done) → originalRefusal payload ≡ 0 → n ≡ originalNumber payload → rest ≡ originalPayload payload → didRepair instant (originalEntry (m .session .queue) p n rest) m ≡ done → didOriginal instant p payload m ≡ done
-    unfolding didOriginal
+    pub original-is : (n : ℕ) (rest : List ℕ) (done : Done) → originalRefusal payload ≡ 0 → n ≡ originalNumber payload → rest ≡ originalPayload payload → didRepair instant (extendedEntry (m .session .queue) None (p .timestamp .0) n (p .marker) rest) m ≡ done → didOriginal instant p payload m ≡ done
+    unfolding didOriginal originalNumberRefusal
     original-is n rest done e hn hr h = let o : orElse first (originalRefusal payload) ≡ 0 = orElse-second first (originalRefusal payload) z ∙ e in rw (o, ← hn, ← hr) h
 
 -- ---- the datagram
@@ -46,10 +47,10 @@ module _ (instant : ℕ) (d : List ℕ) (m : Stored) (r c : ℕ) (ec : c ≡ orE
   datagram = datagramRefusal (m .session .queue .config .senders .«rtx_pt») (m .session .queue .config .senders .«rtx_ssrc» .0) LARGEST-REPAIR d
 
   abbrev later : ℕ
-  later = orElse (mediaFirstRefusal (m .session .queue)) (orElse (originalRefusal (payloadOf d)) (fateRefusal (repairEntry d (m .session .queue)) (repairFate (parse m) (repairEntry d (m .session .queue) .number)) (parse m)))
+  later = orElse (originalNumberRefusal (m .session .queue) (payloadOf d)) (fateRefusal (repairEntry d (m .session .queue)) (repairFate (parse m) (repairEntry d (m .session .queue) .number)) (parse m))
 
   chain : refusal (repair instant d) m ≡ orElse r (orElse datagram later)
-  unfolding refusal callRefusal repairRefusal fateRefusal parse
+  unfolding refusal callRefusal repairRefusal parse
   chain = assoc (sessionRefusal m) _ _ ∙ assoc _ (rtxRefusal (m .session .queue)) _ ∙ rw (← ec, ← e)
 
   pub repair-early : (r ≡ 0 → ⊥) → did (repair instant d) m ≡ record { answer = Calls.refused r; stored = m; output = [] }
@@ -61,11 +62,11 @@ module _ (instant : ℕ) (d : List ℕ) (m : Stored) (r c : ℕ) (ec : c ≡ orE
     unfolding outputOf
     repair-unread k hk h = refused-is (repair instant d) m k (sym (chain ∙ orElse-second r _ z ∙ ap (λ (j : ℕ). orElse j later) hk ∙ orElse-first k later h)) h
 
-    reads : datagram ≡ 0 → refusal (repair instant d) m ≡ orElse (orElse (mediaFirstRefusal (m .session .queue)) (originalRefusal (payloadOf d))) (fateRefusal (repairEntry d (m .session .queue)) (repairFate (parse m) (repairEntry d (m .session .queue) .number)) (parse m))
-    reads hk = chain ∙ orElse-second r _ z ∙ orElse-second datagram later hk ∙ assoc (mediaFirstRefusal (m .session .queue)) (originalRefusal (payloadOf d)) _
+    reads : datagram ≡ 0 → refusal (repair instant d) m ≡ orElse (originalNumberRefusal (m .session .queue) (payloadOf d)) (fateRefusal (repairEntry d (m .session .queue)) (repairFate (parse m) (repairEntry d (m .session .queue) .number)) (parse m))
+    reads hk = chain ∙ orElse-second r _ z ∙ orElse-second datagram later hk
 
-    same-entry : originalEntry (m .session .queue) (packetOf d) (originalNumber (payloadOf d)) (originalPayload (payloadOf d)) ≡ repairEntry d (m .session .queue)
-    unfolding originalEntry repairEntry packetOf
+    same-entry : extendedEntry (m .session .queue) None (packetOf d .timestamp .0) (originalNumber (payloadOf d)) (packetOf d .marker) (originalPayload (payloadOf d)) ≡ repairEntry d (m .session .queue)
+    unfolding repairEntry packetOf
     same-entry = refl
 
     read-as : refusal (repair instant d) m ≡ fateRefusal (repairEntry d (parse m .queue)) (repairFate (parse m) (repairEntry d (parse m .queue) .number)) (parse m) → did (repair instant d) m ≡ didRepair instant (repairEntry d (parse m .queue)) m

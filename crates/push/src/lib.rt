@@ -12,14 +12,14 @@ ghost use Rattle.model.specs.Push as Push;
 ghost use Rattle.model.specs.Storage.{GAP-WORDS, gapWords, gapsOf, parse, write};
 ghost use Rattle.durations.specs.Seconds.{largest};
 ghost use Rattle.rtp_packet.specs.Datagram.{LARGEST-PAYLOAD};
-ghost use Rattle.model.specs.Calls.{media};
-ghost use Rattle.model.specs.Table.{sessionSound};
+ghost use Rattle.model.specs.Calls.{media, placedAnswer};
+ghost use Rattle.model.specs.Table.{sessionSound, packetRefusal};
 ghost use Rattle.packet_gaps.specs.Gaps.{GapsIn};
 ghost use Rattle.entries.specs.Entries.{entry};
 ghost use Rattle.session.specs.Place as Spec;
 ghost use Rattle.push.specs.Answers.{mediaAnswer};
 ghost use Rattle.model.specs.Contract.{stored, Does};
-ghost use Rattle.push.specs.Media.{Takes, Counts, Fit, entryOf, packetRefusal, placed, placedAnswer, didPacket};
+ghost use Rattle.push.specs.Media.{Takes, Counts, Fit, didPacket};
 use entries::Entry;
 use model::LastReceived;
 use model::Queue;
@@ -139,7 +139,7 @@ fn gaps_from(gaps: &mut [u64], n: usize, x: ExtendedSequenceNumber) -> usize
 
 // The entry that a packet becomes, without its payload.
 fn media_entry(q: Queue, instant: u64, p: RtpPacket, size: usize) -> Entry
-    ensures { λ r. ⌜ ((payload : List ℕ) → entry r payload ≡ entryOf instant q p payload) ⌝ }
+    ensures { λ r. ⌜ ((payload : List ℕ) → entry r payload ≡ Push.extendedEntry q (Opt.Some instant) (p .timestamp .0) (p .«sequence_number» .0) (p .marker) payload) ⌝ }
     ensures { λ r. ⌜ (r .size ≡ size) × (r .arrival ≡ Opt.Some instant) ⌝ }
 {
     let number = session::extended_number(q, p.sequence_number);
@@ -189,7 +189,7 @@ fn insert_packet(
 ) -> Session
     requires { ⌜ Fit instant e (now payload) place (stored s (now entries) (now payloads) (now gaps) (now remembered)) ⌝ }
     requires { ⌜ (Rules.waits (Spec.place place) ≡ true) × (s .entries < s .queue .config .settings .«max_entries») ⌝ }
-    ensures { λ r. ⌜ stored r (now (entries .exit)) (now (payloads .exit)) (now (gaps .exit)) (now (remembered .entry)) ≡ write (placed instant (entry e (now (payload .entry))) (Spec.place place) (parse (stored s (now (entries .entry)) (now (payloads .entry)) (now (gaps .entry)) (now (remembered .entry))))) ⌝ }
+    ensures { λ r. ⌜ stored r (now (entries .exit)) (now (payloads .exit)) (now (gaps .exit)) (now (remembered .entry)) ≡ write (Push.afterPlaced instant (entry e (now (payload .entry))) (Spec.place place) (parse (stored s (now (entries .entry)) (now (payloads .entry)) (now (gaps .entry)) (now (remembered .entry))))) ⌝ }
 {
     let n = s.entries;
     let size = e.size as u64;
@@ -218,7 +218,7 @@ fn push_out_packet(
 ) -> Session
     requires { ⌜ Fit instant e (now payload) place (stored s (now entries) (now payloads) (now gaps) (now remembered)) ⌝ }
     requires { ⌜ (Rules.waits (Spec.place place) ≡ true) × (s .queue .config .settings .«max_entries» ≤ s .entries) ⌝ }
-    ensures { λ r. ⌜ stored r (now (entries .exit)) (now (payloads .exit)) (now (gaps .exit)) (now (remembered .entry)) ≡ write (placed instant (entry e (now (payload .entry))) (Spec.place place) (parse (stored s (now (entries .entry)) (now (payloads .entry)) (now (gaps .entry)) (now (remembered .entry))))) ⌝ }
+    ensures { λ r. ⌜ stored r (now (entries .exit)) (now (payloads .exit)) (now (gaps .exit)) (now (remembered .entry)) ≡ write (Push.afterPlaced instant (entry e (now (payload .entry))) (Spec.place place) (parse (stored s (now (entries .entry)) (now (payloads .entry)) (now (gaps .entry)) (now (remembered .entry))))) ⌝ }
 {
     let n = s.entries;
     let size = e.size as u64;
@@ -249,7 +249,7 @@ fn queue_packet(
 ) -> Session
     requires { ⌜ Fit instant e (now payload) place (stored s (now entries) (now payloads) (now gaps) (now remembered)) ⌝ }
     requires { ⌜ Rules.waits (Spec.place place) ≡ true ⌝ }
-    ensures { λ r. ⌜ stored r (now (entries .exit)) (now (payloads .exit)) (now (gaps .exit)) (now (remembered .entry)) ≡ write (placed instant (entry e (now (payload .entry))) (Spec.place place) (parse (stored s (now (entries .entry)) (now (payloads .entry)) (now (gaps .entry)) (now (remembered .entry))))) ⌝ }
+    ensures { λ r. ⌜ stored r (now (entries .exit)) (now (payloads .exit)) (now (gaps .exit)) (now (remembered .entry)) ≡ write (Push.afterPlaced instant (entry e (now (payload .entry))) (Spec.place place) (parse (stored s (now (entries .entry)) (now (payloads .entry)) (now (gaps .entry)) (now (remembered .entry))))) ⌝ }
 {
     let config = s.queue.config;
     let settings = config.settings;
@@ -293,7 +293,7 @@ fn place_packet(
 ) -> Pushed
     requires { ⌜ Fit instant e (now payload) place (stored s (now entries) (now payloads) (now gaps) (now remembered)) ⌝ }
     ensures { λ r. ⌜ mediaAnswer (r .answer) ≡ placedAnswer (Spec.place place) ⌝ }
-    ensures { λ r. ⌜ stored (r .session) (now (entries .exit)) (now (payloads .exit)) (now (gaps .exit)) (now (remembered .entry)) ≡ write (placed instant (entry e (now (payload .entry))) (Spec.place place) (parse (stored s (now (entries .entry)) (now (payloads .entry)) (now (gaps .entry)) (now (remembered .entry))))) ⌝ }
+    ensures { λ r. ⌜ stored (r .session) (now (entries .exit)) (now (payloads .exit)) (now (gaps .exit)) (now (remembered .entry)) ≡ write (Push.afterPlaced instant (entry e (now (payload .entry))) (Spec.place place) (parse (stored s (now (entries .entry)) (now (payloads .entry)) (now (gaps .entry)) (now (remembered .entry))))) ⌝ }
 {
     let mut session = s;
     if !session::push::waits(place) {
@@ -334,7 +334,7 @@ fn push_packet(
 ) -> Pushed
     requires { ⌜ sessionSound (stored s (now entries) (now payloads) (now gaps) (now remembered)) ≡ true ⌝ }
     requires { ⌜ (instant ≤ largest) × (length (now payload) ≤ LARGEST-PAYLOAD) ⌝ }
-    ensures { λ r. ⌜ didPacket instant (entryOf instant (s .queue) p (now (payload .entry))) (stored s (now (entries .entry)) (now (payloads .entry)) (now (gaps .entry)) (now (remembered .entry))) ≡ record { answer = mediaAnswer (r .answer); stored = stored (r .session) (now (entries .exit)) (now (payloads .exit)) (now (gaps .exit)) (now (remembered .exit)); output = [] } ⌝ }
+    ensures { λ r. ⌜ didPacket instant (Push.extendedEntry (s .queue) (Opt.Some instant) (p .timestamp .0) (p .«sequence_number» .0) (p .marker) (now (payload .entry))) (stored s (now (entries .entry)) (now (payloads .entry)) (now (gaps .entry)) (now (remembered .entry))) ≡ record { answer = mediaAnswer (r .answer); stored = stored (r .session) (now (entries .exit)) (now (payloads .exit)) (now (gaps .exit)) (now (remembered .exit)); output = [] } ⌝ }
 {
     let q = s.queue;
     let e = media_entry(q, instant, p, payload.len());

@@ -5,6 +5,7 @@ ghost use mathlib.Core.List.{List, []};
 ghost use Prim.Native.Nat.{ℕ, _*_, _≤_, _<_};
 ghost use lib.ListN.{length};
 ghost use Rattle.words.specs.Order.{ascends};
+ghost use Rattle.refusals.specs.Refusals.{ENTRIES-FULL};
 ghost use Rattle.durations.specs.Seconds.{largest};
 ghost use Rattle.rtp_packet.specs.Datagram.{LARGEST-PAYLOAD, LARGEST-REPAIR};
 ghost use Rattle.model.specs.Lists.{some?};
@@ -13,14 +14,14 @@ ghost use Rattle.model.specs.Rules as Rules;
 ghost use Rattle.model.specs.Push as Push;
 ghost use Rattle.model.specs.Storage.{GAP-WORDS, gapsOf, parse, write};
 ghost use Rattle.model.specs.Calls.{repair, repaired};
-ghost use Rattle.model.specs.Table.{sessionSound};
+ghost use Rattle.model.specs.Table.{sessionSound, refuseIf, noPlace, fateRefusal};
 ghost use Rattle.entries.specs.Entries.{entry};
 ghost use Rattle.session.specs.Place as Spec;
 ghost use Rattle.push.specs.Answers.{repairAnswer};
 ghost use Rattle.model.specs.Contract.{stored, Does};
 ghost use Rattle.storage.specs.Settled.{Settled};
 ghost use Rattle.push.specs.Media.{Counts};
-ghost use Rattle.push.specs.Repair.{FitRepair, originalEntry, entriesRefusal, fateRefusal, leftAfter, didRepair, didOriginal};
+ghost use Rattle.push.specs.Repair.{FitRepair, leftAfter, didRepair, didOriginal};
 use entries::Entry;
 use model::Queue;
 use model::Session;
@@ -61,7 +62,7 @@ fn repair_fate(q: Queue, gaps: &[u64], n: usize, x: ExtendedSequenceNumber) -> F
 
 // The entry that a repair becomes, without its payload.
 fn original_entry(q: Queue, p: RtpPacket, number: SequenceNumber, size: usize) -> Entry
-    ensures { λ r. ⌜ ((payload : List ℕ) → entry r payload ≡ originalEntry q p (number .0) payload) ⌝ }
+    ensures { λ r. ⌜ ((payload : List ℕ) → entry r payload ≡ Push.extendedEntry q Opt.None (p .timestamp .0) (number .0) (p .marker) payload) ⌝ }
     ensures { λ r. ⌜ (r .size ≡ size) × (r .arrival ≡ Opt.None) ⌝ }
 {
     let extended = session::extended_number(q, number);
@@ -77,7 +78,7 @@ fn original_entry(q: Queue, p: RtpPacket, number: SequenceNumber, size: usize) -
 
 // 13
 fn entries_full(places: usize, n: usize, fate: Fate) -> u64
-    ensures { λ r. ⌜ r ≡ entriesRefusal places n (Spec.fate fate) ⌝ }
+    ensures { λ r. ⌜ r ≡ refuseIf (noPlace places n (Spec.fate fate)) ENTRIES-FULL ⌝ }
 {
     match fate {
         Fate::TooLate => 0,
@@ -226,7 +227,7 @@ fn push_original(
 ) -> PushedRtx
     requires { ⌜ sessionSound (stored s (now entries) (now payloads) (now gaps) (now remembered)) ≡ true ⌝ }
     requires { ⌜ length (now payload) ≤ LARGEST-PAYLOAD ⌝ }
-    ensures { λ r. ⌜ didRepair instant (originalEntry (s .queue) p (number .0) (now (payload .entry))) (stored s (now (entries .entry)) (now (payloads .entry)) (now (gaps .entry)) (now (remembered .entry))) ≡ record { answer = repairAnswer (r .answer); stored = stored (r .session) (now (entries .exit)) (now (payloads .exit)) (now (gaps .exit)) (now (remembered .exit)); output = [] } ⌝ }
+    ensures { λ r. ⌜ didRepair instant (Push.extendedEntry (s .queue) Opt.None (p .timestamp .0) (number .0) (p .marker) (now (payload .entry))) (stored s (now (entries .entry)) (now (payloads .entry)) (now (gaps .entry)) (now (remembered .entry))) ≡ record { answer = repairAnswer (r .answer); stored = stored (r .session) (now (entries .exit)) (now (payloads .exit)) (now (gaps .exit)) (now (remembered .exit)); output = [] } ⌝ }
 {
     let q = s.queue;
     let e = original_entry(q, p, number, payload.len());

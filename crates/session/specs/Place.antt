@@ -1,7 +1,4 @@
 -- Where a media number stands and what becomes of a repair: for each case of the code's enums the case of `model`.
-use mathlib.Core.List.{List, [], _∷_}
-use Prim.Native.Nat.{ℕ, _+_}
-use Rattle.rtx_state.specs.declared.RtxState.{RtxState}
 use Rattle.model.specs.Rules as Rules
 use Rattle.model.specs.Push as Push
 use Rattle.session.specs.declared.push.Place.{Place}
@@ -21,8 +18,3 @@ fate Fate.TooLate = Push.tooLate
 fate Fate.Recovered = Push.recovered
 fate Fate.Redundant = Push.redundant
 
--- `fateValues` of `model`, by the size of the payload
-unfoldable pub raisedBy : RtxState → ℕ → Push.Fate → List ℕ
-raisedBy r size Push.tooLate = (r .«received_too_late» + 1) ∷ []
-raisedBy r size Push.redundant = (r .«received_redundant» + 1) ∷ []
-raisedBy r size Push.recovered = (r .«received_in_time» + 1) ∷ (r .«bytes_received» + size) ∷ []

@@ -1,6 +1,6 @@
 // `push` (000) on the records that go by value: what is counted, and which check turns a media packet back.
 ghost use mathlib.Core.Path.{_≡_};
-ghost use mathlib.Core.Bool.{cond, _&&_};
+ghost use mathlib.Core.Bool.{_&&_};
 ghost use mathlib.Core.List.{List, [], _∷_};
 ghost use Prim.Native.Nat.{_+_, _-_, _<_, _≤_};
 ghost use lib.Dec.{leb, ltb};
@@ -179,7 +179,7 @@ pub fn next_count(value: u64) -> u64
 // 14 for what a packet would raise; `full` says that the front entry would be pushed out.
 fn raised(c: Counters, size: u64, waits: bool, full: bool) -> u64
     requires { ⌜ (c .bytes ≤ largest) × (size ≤ largest) ⌝ }
-    ensures { λ r. ⌜ r ≡ Table.countRefusal (cond waits ((c .received + 1) ∷ (c .bytes + size) ∷ cond full ((c .dropped + 1) ∷ []) []) ((c .dropped + 1) ∷ [])) ⌝ }
+    ensures { λ r. ⌜ r ≡ Table.countRefusal (Table.mediaValues c size waits full) ⌝ }
 {
     if !waits {
         return next_count(c.dropped);
@@ -206,7 +206,7 @@ pub fn counts(
     full: bool,
 ) -> u64
     requires { ⌜ (c .bytes ≤ largest) × (size ≤ largest) ⌝ }
-    ensures { λ r. ⌜ r ≡ Table.countRefusal (timestamp .0 ∷ number .0 ∷ cond waits ((c .received + 1) ∷ (c .bytes + size) ∷ cond full ((c .dropped + 1) ∷ []) []) ((c .dropped + 1) ∷ [])) ⌝ }
+    ensures { λ r. ⌜ r ≡ Table.countRefusal (timestamp .0 ∷ number .0 ∷ Table.mediaValues c size waits full) ⌝ }
 {
     if LARGEST < timestamp.0 {
         return refusals::COUNT;

@@ -71,7 +71,7 @@ pub fn recovered(q: Queue, now: u64, nacked: Opt, size: u64) -> Queue
 // 14 for what a repair would raise.
 fn raised(rtx: RtxState, size: u64, fate: Fate) -> u64
     requires { ⌜ (rtx .«bytes_received» ≤ largest) × (size ≤ largest) ⌝ }
-    ensures { λ r. ⌜ r ≡ Table.countRefusal (Spec.raisedBy rtx size (Spec.fate fate)) ⌝ }
+    ensures { λ r. ⌜ r ≡ Table.countRefusal (Table.fateValues rtx size (Spec.fate fate)) ⌝ }
 {
     match fate {
         Fate::TooLate => super::push::next_count(rtx.received_too_late),
@@ -94,7 +94,7 @@ pub fn counts(
     fate: Fate,
 ) -> u64
     requires { ⌜ (rtx .«bytes_received» ≤ largest) × (size ≤ largest) ⌝ }
-    ensures { λ r. ⌜ r ≡ Table.countRefusal (timestamp .0 ∷ number .0 ∷ Spec.raisedBy rtx size (Spec.fate fate)) ⌝ }
+    ensures { λ r. ⌜ r ≡ Table.countRefusal (timestamp .0 ∷ number .0 ∷ Table.fateValues rtx size (Spec.fate fate)) ⌝ }
 {
     if LARGEST < timestamp.0 {
         return refusals::COUNT;

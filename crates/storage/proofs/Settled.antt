@@ -21,7 +21,7 @@ use Rattle.config.proofs.Facts.{Usable}
 use Rattle.model.specs.declared.Session.{Session}
 use Rattle.model.specs.Lists.{every?}
 use Rattle.model.specs.Records.{Entry, Gap, Remembered, entryNumbers, gapNumbers}
-use Rattle.model.specs.Valid.{queueSound, countsFit, lastSound}
+use Rattle.model.specs.Valid.{boundsOf, queueSound, listsSound, lastSound}
 use Rattle.model.specs.Storage.{Storage, Stored, entryWords, payloadBytes, gapWords, rememberedWords, entryPlaces, lengthsFit, entriesOf, gapsOf, rememberedOf, entriesLaid, payloadsLaid, gapsLaid, rememberedLaid, parse, write}
 use Rattle.model.specs.Calls as Calls
 use Rattle.model.specs.Calls.{Call, rtxStats, taken, outputOf}
@@ -39,9 +39,8 @@ use Rattle.entries.specs.Entries.{EntriesIn, fits}
 use Rattle.entries.proofs.Model.{sound-fits}
 use Rattle.lost_nacked.specs.Remembered.{RememberedIn}
 use Rattle.model.specs.Contract.{storage, stored, Does}
-use Rattle.storage.specs.Check.{numbersFit, listsSound}
 use Rattle.storage.specs.Settled.{Settled}
-use Rattle.storage.proofs.Checking.{Lists, lists-of, Lengths, lengths-of, Counts, counts-of, Room, room-of, valid-usable, session-is}
+use Rattle.storage.proofs.Checking.{Lists, lists-of, Lengths, lengths-of, Counts, counts-of, Room, room-of, valid-usable, counted, session-is}
 
 -- ---- a session that check 16 passes
 
@@ -68,12 +67,12 @@ checked m h =
     let c = s .queue .config in
     let rest = queueSound (s .queue) && listsSound (parse m) in
     let all = sym (session-is m) ∙ h in
-    let valid = and-left (configValid c) (lengthsFit (c .settings) (m .storage) && (numbersFit s && rest)) all in
-    let more = and-right (configValid c) (lengthsFit (c .settings) (m .storage) && (numbersFit s && rest)) all in
-    let l = lengths-of (c .settings) (m .storage) (and-left (lengthsFit (c .settings) (m .storage)) (numbersFit s && rest) more) in
-    let counted = and-right (lengthsFit (c .settings) (m .storage)) (numbersFit s && rest) more in
-    let n = counts-of s (and-left (numbersFit s) rest counted) in
-    let i = lists-of (parse m) (and-right (queueSound (s .queue)) (listsSound (parse m)) (and-right (numbersFit s) rest counted)) in
+    let valid = and-left (configValid c) (lengthsFit (c .settings) (m .storage) && (counted m && rest)) all in
+    let more = and-right (configValid c) (lengthsFit (c .settings) (m .storage) && (counted m && rest)) all in
+    let l = lengths-of (c .settings) (m .storage) (and-left (lengthsFit (c .settings) (m .storage)) (counted m && rest) more) in
+    let count = and-right (lengthsFit (c .settings) (m .storage)) (counted m && rest) more in
+    let n = counts-of s (and-left (counted m) rest count) in
+    let i = lists-of (parse m) (and-right (queueSound (s .queue)) (listsSound (parse m)) (and-right (counted m) rest count)) in
     record {
       usable = valid-usable c valid;
       lengths = l;
@@ -81,7 +80,7 @@ checked m h =
       room = room-of s (m .storage) l n;
       sound = sound-session m (sound-none m h);
       lists = i;
-      payloads = sound-fits (parse m .queue) (parse m .gaps) (parse m .entries) (i .entries-sound);
+      payloads = sound-fits (boundsOf (parse m .queue)) (parse m .gaps) (parse m .entries) (i .entries-sound);
     }
 
 -- ---- settling
@@ -157,7 +156,7 @@ module _ (m : Stored) (h : sessionSound m ≡ true) (e p g r : List ℕ) (w : st
   unfolding parse
   ready-lengths =
       let k = checked m h .sound in
-      let fit = lengths-write (parse m) (payloads-fit k) (is-true (countsFit (parse m)) (fits-to (parse m) (k .fits))) in
+      let fit = lengths-write (parse m) (payloads-fit k) (is-true _ (fits-to (parse m) (k .fits))) in
       lengths-of (m .session .queue .config .settings) (storage e p g r) (ap (λ (x : Stored). lengthsFit (m .session .queue .config .settings) (x .storage)) w ∙ fit)
 
   are-entries : entriesOf e p (m .session .entries) ≡ parse m .entries
@@ -221,8 +220,8 @@ module _ (m : Stored) (k : Checked m) where
 
 -- no instant of a gap is past the largest, where the clock is not
 pub instants : (m : Stored) → Checked m → m .session .queue .clock ≤ largest → every? instantsFit (parse m .gaps) ≡ true
-unfolding parse
-instants m k h = sound-instants (m .session .queue) (parse m .gaps) h (k .lists .gaps-sound)
+unfolding parse boundsOf
+instants m k h = sound-instants (boundsOf (m .session .queue)) (parse m .gaps) h (k .lists .gaps-sound)
 
 -- ---- refused, or accepted
 

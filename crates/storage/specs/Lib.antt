@@ -1,3 +1,2 @@
--- Check 16 as the code makes it, and what a call finds after it.
-pub mod Check
+-- What a call finds after check 16.
 pub mod Settled

@@ -5,10 +5,10 @@ ghost use mathlib.Core.List.{List};
 ghost use Prim.Native.Nat.{ℕ, _*_, _≤_};
 ghost use lib.ListN.{length};
 ghost use Rattle.refusals.specs.Refusals.{orElse};
+ghost use Rattle.model.specs.Valid.{countsFit, listsSound};
 ghost use Rattle.model.specs.Storage.{ENTRY-WORDS, GAP-WORDS, REMEMBERED-WORDS, lengthsFit, parse, write};
 ghost use Rattle.model.specs.Table.{sessionSound, sessionRefusal, clockRefusal};
 ghost use Rattle.model.specs.Contract.{storage, stored};
-ghost use Rattle.storage.specs.Check.{numbersFit, listsSound};
 use config::Settings;
 use entries::ENTRY_WORDS;
 use entries::PAYLOAD_BYTES;
@@ -38,7 +38,7 @@ pub fn lengths_fit(
 // "more than 2 · D entries, G gaps or 1,024 remembered"
 fn counts_fit(s: Session) -> bool
     requires { ⌜ s .queue .config .settings .«max_entries» ≤ 1024 ⌝ }
-    ensures { λ r. ⌜ r ≡ numbersFit s ⌝ }
+    ensures { λ r. ⌜ r ≡ countsFit (s .queue .config .settings) (s .entries) (s .gaps) (s .remembered) ⌝ }
 {
     let config = s.queue.config;
     let set = config.settings;

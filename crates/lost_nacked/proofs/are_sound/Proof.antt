@@ -4,14 +4,14 @@ use Prim.Native.Nat.{_-_, _≤_}
 use lib.ListN.{drop}
 use Rattle.model.specs.Lists.{every?}
 use Rattle.model.specs.Storage.{rememberedOf}
-use Rattle.lost_nacked.specs.Remembered.{rememberedBy}
+use Rattle.model.specs.Valid.{rememberedSound}
 use Rattle.lost_nacked.proofs.Laws.{sound-number, sound-instant, sound-more, sound-end}
 use borrow.Author.Needs.{needs}
 use Rattle.lost_nacked.proofs.are_sound.Statement.{statement}
 use Rattle.lost_nacked.proofs.are_sound.Tie as tie
 
 abbrev Inv-loop : tie.InvT-loop
-Inv-loop s n clock i₀ i = (every? (rememberedBy clock) (rememberedOf s n) ≡ every? (rememberedBy clock) (drop i (rememberedOf s n))) × (i ≤ n)
+Inv-loop s n clock i₀ i = (every? (rememberedSound clock) (rememberedOf s n) ≡ every? (rememberedSound clock) (drop i (rememberedOf s n))) × (i ≤ n)
 
 abbrev μ-loop : tie.MeasureT-loop
 μ-loop s n clock i₀ i = n - i

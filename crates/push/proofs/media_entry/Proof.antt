@@ -1,5 +1,5 @@
 -- `media_entry`: field by field.
-use Rattle.push.specs.Media.{entryOf}
+use Rattle.model.specs.Push.{extendedEntry}
 use mathlib.Core.Path.{refl}
 use borrow.Author.Needs.{needs}
 use Rattle.push.proofs.media_entry.Statement.{statement}
@@ -12,7 +12,7 @@ extended-timestamp-requires : tie.Need-extended-timestamp-requires
 extended-timestamp-requires c κs = search needs
 
 returns : tie.Need-returns
-unfolding entryOf
+unfolding extendedEntry
 returns c = (λ payload. rw (c .extended-timestamp .ensures, c .before .extended-number .ensures), (refl, refl))
 
 pub media-entry-spec : {M : Type 1} → statement M

@@ -6,7 +6,7 @@ use Rattle.model.specs.Rules.{waits}
 use Rattle.session.specs.Place.{place}
 use Rattle.push.specs.Answers.{mediaAnswer}
 use Rattle.model.specs.Contract.{stored}
-use Rattle.push.specs.Media.{placedAnswer}
+use Rattle.model.specs.Calls.{placedAnswer}
 use Rattle.push.proofs.Media.{dropped-fits, dropped-packet}
 use borrow.Author.Needs.{needs}
 use Rattle.push.proofs.place_packet.Statement.{statement}

@@ -1,7 +1,7 @@
 -- `passed` meets its contract, arm by arm.
 use mathlib.Core.Path.{_≡_}
 use Rattle.config.specs.declared.RtpInboundQueueMode.the-variants.{Passthrough, SortedQueue}
-use Rattle.model.specs.Push.{passed}
+use Rattle.model.specs.Push.{atOrBelow, passed}
 use borrow.Author.Needs.{needs}
 use Rattle.session.proofs.passed.Statement.{statement}
 use Rattle.session.proofs.passed.Tie as tie
@@ -16,7 +16,7 @@ at-or-below-requires : tie.Need-at-or-below-requires
 at-or-below-requires c κs = search needs
 
 returns : tie.Need-returns
-unfolding passed
+unfolding passed atOrBelow
 returns c =
     let e : c .before .before .before .before .args .q .config .settings .mode ≡ Passthrough = c .enum-told .given .1 in
     rw e

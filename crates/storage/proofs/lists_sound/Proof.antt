@@ -1,4 +1,4 @@
--- `lists_sound` meets its contract: the bounds say of each gap and entry what the session says, so the tests are the same, in other groups.
+-- `lists_sound` meets its contract: the same tests, each made only where those before it passed.
 use mathlib.Core.Path.{sym, _∙_}
 use borrow.Author.Tests.{not-true, not-false}
 use Rattle.words.proofs.Ordered.{and-left}

@@ -25,8 +25,8 @@ read-requires c κs = search needs
 contains-requires : tie.Need-contains-requires Inv-loop μ-loop
 contains-requires c κs = let s = c .before .before .before .before .before in (search needs, s .pre .1)
 
-entry-within-requires : tie.Need-entry-within-requires Inv-loop μ-loop
-entry-within-requires c κs = search needs
+entry-sound-requires : tie.Need-entry-sound-requires Inv-loop μ-loop
+entry-sound-requires c κs = search needs
 
 returns : tie.Need-returns Inv-loop μ-loop
 unfolding left
@@ -35,7 +35,7 @@ returns c = λ bytes.
     let l = c .before .before .before .before .before .loop in
     let r = c .before .before .before .read in
     let m = c .before .before .contains in
-    sym (l .inv .0 bytes ∙ scan-bad (s .args .words .now) bytes (s .args .n) (l .i) (c .before .before .before .before .loop-test .taken) (r .result) (r .ensures) (s .args .b) (gapsOf (s .args .gaps .now) (s .args .m)) (m .result) (m .ensures) (sym (c .before .entry-within .ensures) ∙ not-true _ (c .if1 .taken)))
+    sym (l .inv .0 bytes ∙ scan-bad (s .args .words .now) bytes (s .args .n) (l .i) (c .before .before .before .before .loop-test .taken) (r .result) (r .ensures) (s .args .b) (gapsOf (s .args .gaps .now) (s .args .m)) (m .result) (m .ensures) (sym (c .before .entry-sound .ensures) ∙ not-true _ (c .if1 .taken)))
 
 add-next : tie.Need-add-next Inv-loop μ-loop
 add-next c = search needs
@@ -66,7 +66,7 @@ loop-again c = let s = c .before .before .before .before .before .before .before
     let l = c .before .before .before .before .before .before .before .before .before .loop in
     let r = c .before .before .before .before .before .before .before .read in
     let m = c .before .before .before .before .before .before .contains in
-    (λ bytes. l .inv .0 bytes ∙ scan-more (s .args .words .now) bytes (s .args .n) (l .i) (c .before .before .before .before .before .before .before .before .loop-test .taken) (r .result) (r .ensures) (s .args .b) (gapsOf (s .args .gaps .now) (s .args .m)) (m .result) (m .ensures) (c .before .before .before .if2 .taken) (sym (c .before .before .before .before .before .entry-within .ensures) ∙ not-false _ (c .before .before .before .before .if1 .left)) (c .if3 .left), search needs)
+    (λ bytes. l .inv .0 bytes ∙ scan-more (s .args .words .now) bytes (s .args .n) (l .i) (c .before .before .before .before .before .before .before .before .loop-test .taken) (r .result) (r .ensures) (s .args .b) (gapsOf (s .args .gaps .now) (s .args .m)) (m .result) (m .ensures) (c .before .before .before .if2 .taken) (sym (c .before .before .before .before .before .entry-sound .ensures) ∙ not-false _ (c .before .before .before .before .if1 .left)) (c .if3 .left), search needs)
 
 loop-less-2 : tie.Need-loop-less-2 Inv-loop μ-loop
 loop-less-2 c = search needs
@@ -76,7 +76,7 @@ loop-again-2 c = let s = c .before .before .before .before .before .before .befo
     let l = c .before .before .before .before .before .before .loop in
     let r = c .before .before .before .before .read in
     let m = c .before .before .before .contains in
-    (λ bytes. l .inv .0 bytes ∙ scan-last (s .args .words .now) bytes (s .args .n) (l .i) (c .before .before .before .before .before .loop-test .taken) (r .result) (r .ensures) (s .args .b) (gapsOf (s .args .gaps .now) (s .args .m)) (m .result) (m .ensures) (sym (c .before .before .entry-within .ensures) ∙ not-false _ (c .before .if1 .left)) (c .if2 .left), search needs)
+    (λ bytes. l .inv .0 bytes ∙ scan-last (s .args .words .now) bytes (s .args .n) (l .i) (c .before .before .before .before .before .loop-test .taken) (r .result) (r .ensures) (s .args .b) (gapsOf (s .args .gaps .now) (s .args .m)) (m .result) (m .ensures) (sym (c .before .before .entry-sound .ensures) ∙ not-false _ (c .before .if1 .left)) (c .if2 .left), search needs)
 
 returns-3 : tie.Need-returns-3 Inv-loop μ-loop
 unfolding left
@@ -94,7 +94,7 @@ are-sound-spec =
     loop-holds
     read-requires
     contains-requires
-    entry-within-requires
+    entry-sound-requires
     returns
     add-next
     mul-if3

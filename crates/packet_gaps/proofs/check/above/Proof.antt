@@ -1,5 +1,6 @@
 -- `above`: each arm is a line of the definition.
 use Rattle.model.specs.Push.{atOrBelow}
+use Rattle.model.specs.Valid.{notPassed}
 use Rattle.packet_gaps.proofs.Laws.{not-at-or-below}
 use borrow.Author.Needs.{needs}
 use Rattle.packet_gaps.proofs.check.above.Statement.{statement}
@@ -12,11 +13,11 @@ enum-known-low : tie.Need-enum-known-low
 enum-known-low c = search needs
 
 returns : tie.Need-returns
-unfolding atOrBelow
+unfolding notPassed atOrBelow
 returns c = cc
 
 returns-2 : tie.Need-returns-2
-unfolding atOrBelow
+unfolding notPassed atOrBelow
 returns-2 c = cc (not-at-or-below (c .before .before .low .given .0 .0) (c .before .before .before .before .args .x .0))
 
 pub above-spec : {M : Type 1} → statement M

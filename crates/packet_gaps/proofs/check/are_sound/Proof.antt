@@ -21,15 +21,15 @@ loop-holds c = (refl, search needs)
 read-requires : tie.Need-read-requires Inv-loop μ-loop
 read-requires c κs = search needs
 
-gap-within-requires : tie.Need-gap-within-requires Inv-loop μ-loop
-gap-within-requires c κs = search needs
+gap-sound-requires : tie.Need-gap-sound-requires Inv-loop μ-loop
+gap-sound-requires c κs = search needs
 
 returns : tie.Need-returns Inv-loop μ-loop
 unfolding left
 returns c = let s = c .before .before .before .before .before .before in
     let l = c .before .before .before .before .loop in
     let r = c .before .before .read in
-    sym (l .inv .0 ∙ scan-bad (s .args .s .now) (s .args .n) (l .i) (gap (r .result)) (r .ensures) (c .before .before .before .loop-test .taken) (s .args .b) (sym (c .before .gap-within .ensures) ∙ not-true _ (c .if1 .taken)))
+    sym (l .inv .0 ∙ scan-bad (s .args .s .now) (s .args .n) (l .i) (gap (r .result)) (r .ensures) (c .before .before .before .loop-test .taken) (s .args .b) (sym (c .before .gap-sound .ensures) ∙ not-true _ (c .if1 .taken)))
 
 add-next : tie.Need-add-next Inv-loop μ-loop
 add-next c = search needs
@@ -57,7 +57,7 @@ loop-again : tie.Need-loop-again Inv-loop μ-loop
 loop-again c = let s = c .before .before .before .before .before .before .before .before .before .before in
     let l = c .before .before .before .before .before .before .before .before .loop in
     let r = c .before .before .before .before .before .before .read in
-    (l .inv .0 ∙ scan-more (s .args .s .now) (s .args .n) (l .i) (gap (r .result)) (r .ensures) (c .before .before .before .before .before .before .before .loop-test .taken) (s .args .b) (c .before .before .before .if2 .taken) (sym (c .before .before .before .before .before .gap-within .ensures) ∙ not-false _ (c .before .before .before .before .if1 .left)) (c .if3 .left), search needs)
+    (l .inv .0 ∙ scan-more (s .args .s .now) (s .args .n) (l .i) (gap (r .result)) (r .ensures) (c .before .before .before .before .before .before .before .loop-test .taken) (s .args .b) (c .before .before .before .if2 .taken) (sym (c .before .before .before .before .before .gap-sound .ensures) ∙ not-false _ (c .before .before .before .before .if1 .left)) (c .if3 .left), search needs)
 
 loop-less-2 : tie.Need-loop-less-2 Inv-loop μ-loop
 loop-less-2 c = search needs
@@ -66,7 +66,7 @@ loop-again-2 : tie.Need-loop-again-2 Inv-loop μ-loop
 loop-again-2 c = let s = c .before .before .before .before .before .before .before in
     let l = c .before .before .before .before .before .loop in
     let r = c .before .before .before .read in
-    (l .inv .0 ∙ scan-last (s .args .s .now) (s .args .n) (l .i) (gap (r .result)) (r .ensures) (c .before .before .before .before .loop-test .taken) (s .args .b) (sym (c .before .before .gap-within .ensures) ∙ not-false _ (c .before .if1 .left)) (c .if2 .left), search needs)
+    (l .inv .0 ∙ scan-last (s .args .s .now) (s .args .n) (l .i) (gap (r .result)) (r .ensures) (c .before .before .before .before .loop-test .taken) (s .args .b) (sym (c .before .before .gap-sound .ensures) ∙ not-false _ (c .before .if1 .left)) (c .if2 .left), search needs)
 
 returns-3 : tie.Need-returns-3 Inv-loop μ-loop
 unfolding left
@@ -80,7 +80,7 @@ are-sound-spec =
     μ-loop
     loop-holds
     read-requires
-    gap-within-requires
+    gap-sound-requires
     returns
     add-next
     mul-if3

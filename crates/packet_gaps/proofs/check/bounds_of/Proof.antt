@@ -1,5 +1,5 @@
 -- `bounds_of`: a field each.
-use Rattle.packet_gaps.specs.Sound.{boundsOf}
+use Rattle.model.specs.Valid.{boundsOf}
 use borrow.Author.Needs.{needs}
 use Rattle.packet_gaps.proofs.check.bounds_of.Statement.{statement}
 use Rattle.packet_gaps.proofs.check.bounds_of.Tie as tie

@@ -1,6 +1,6 @@
 -- `passed_of`: each arm is a line of the definition.
 use Rattle.model.specs.Records.{returnedOf}
-use Rattle.packet_gaps.specs.Sound.{passedOf}
+use Rattle.model.specs.Push.{passedOf}
 use borrow.Author.Needs.{needs}
 use Rattle.packet_gaps.proofs.check.passed_of.Statement.{statement}
 use Rattle.packet_gaps.proofs.check.passed_of.Tie as tie

@@ -1,7 +1,6 @@
 -- `entries_full`, arm by arm.
-use Rattle.push.specs.Repair.{entriesRefusal}
 use Rattle.session.specs.Place.{fate}
-use Rattle.model.specs.Table.{refuseIf}
+use Rattle.model.specs.Table.{refuseIf, noPlace}
 use borrow.Author.Tests.{le-leb, lt-leb}
 use borrow.Author.Needs.{needs}
 use Rattle.push.proofs.rtx.entries_full.Statement.{statement}
@@ -17,19 +16,19 @@ enum-told-3 : tie.Need-enum-told-3
 enum-told-3 c = search needs
 
 returns : tie.Need-returns
-unfolding fate entriesRefusal refuseIf
+unfolding fate noPlace refuseIf
 returns c = rw (c .before .enum-told3 .given .1, le-leb _ _ (c .if1 .taken))
 
 returns-2 : tie.Need-returns-2
-unfolding fate entriesRefusal
+unfolding fate noPlace refuseIf
 returns-2 c = rw (c .enum-told .given .1)
 
 returns-3 : tie.Need-returns-3
-unfolding fate entriesRefusal
+unfolding fate noPlace refuseIf
 returns-3 c = rw (c .enum-told2 .given .1)
 
 returns-4 : tie.Need-returns-4
-unfolding fate entriesRefusal refuseIf
+unfolding fate noPlace refuseIf
 returns-4 c = rw (c .before .enum-told3 .given .1, lt-leb _ _ (c .if1 .left))
 
 pub entries-full-spec : {M : Type 1} → statement M

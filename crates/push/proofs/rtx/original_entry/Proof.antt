@@ -1,5 +1,5 @@
 -- `original_entry`: field by field.
-use Rattle.push.specs.Repair.{originalEntry}
+use Rattle.model.specs.Push.{extendedEntry}
 use mathlib.Core.Path.{refl}
 use borrow.Author.Needs.{needs}
 use Rattle.push.proofs.rtx.original_entry.Statement.{statement}
@@ -12,7 +12,7 @@ extended-timestamp-requires : tie.Need-extended-timestamp-requires
 extended-timestamp-requires c κs = search needs
 
 returns : tie.Need-returns
-unfolding originalEntry
+unfolding extendedEntry
 returns c = (λ payload. rw (c .extended-timestamp .ensures, c .before .extended-number .ensures), (refl, refl))
 
 pub original-entry-spec : {M : Type 1} → statement M

@@ -1,7 +1,8 @@
 -- `raised`, arm by arm.
 use Prim.Native.Nat.{_+_}
 use Rattle.session.proofs.Counts.{count-here, count-past}
-use Rattle.session.specs.Place.{fate, raisedBy}
+use Rattle.model.specs.Table.{fateValues}
+use Rattle.session.specs.Place.{fate}
 use native.Mathlib.Omega.{arith}
 use mathlib.Core.Path.{_∙_}
 use borrow.Author.Needs.{needs}
@@ -24,7 +25,7 @@ enum-told-3 : tie.Need-enum-told-3
 enum-told-3 c = search needs
 
 returns : tie.Need-returns
-unfolding fate raisedBy
+unfolding fate fateValues
 returns c = rw (c .before .before .enum-told3 .given .1) (count-here (c .before .before .before .before .args .rtx .«received_in_time» + 1) _ (omega arith))
 
 add-count : tie.Need-add-count
@@ -34,15 +35,15 @@ count-requires : tie.Need-count-requires
 count-requires c κs = search needs
 
 returns-2 : tie.Need-returns-2
-unfolding fate raisedBy
+unfolding fate fateValues
 returns-2 c = rw (c .before .enum-told .given .1) (c .next-count .ensures)
 
 returns-3 : tie.Need-returns-3
-unfolding fate raisedBy
+unfolding fate fateValues
 returns-3 c = rw (c .before .enum-told2 .given .1) (c .next-count2 .ensures)
 
 returns-4 : tie.Need-returns-4
-unfolding fate raisedBy
+unfolding fate fateValues
 returns-4 c = rw (c .before .before .before .before .enum-told3 .given .1) (c .count .ensures ∙ count-past (c .before .before .before .before .before .before .args .rtx .«received_in_time» + 1) _ (omega arith))
 
 pub raised-spec : {M : Type 1} → statement M
