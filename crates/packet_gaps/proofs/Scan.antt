@@ -17,7 +17,6 @@ use Rattle.model.specs.Rules.{dueAt, due, tried}
 use Rattle.model.specs.Poll.{nackTimeout}
 use Rattle.model.specs.Storage.{GAP-WORDS, gapOfWords, gapsOf}
 use Rattle.model.proofs.Laid.{length-gapsOf}
-use Rattle.packet_gaps.specs.declared.check.Bounds.{Bounds}
 use Rattle.packet_gaps.specs.Gaps.{full}
 use Rattle.model.specs.Valid.{gapSound}
 use Rattle.packet_gaps.proofs.Laws.{noGap, gap-numbers, number-at, read-is}
