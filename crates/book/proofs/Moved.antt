@@ -17,7 +17,7 @@ use Rattle.model.specs.Records.{Entry, Gap, State, entryNumbers, gapNumbers, re
 use Rattle.model.specs.Rules.{is, Place, placeOf, waits, MAX-GAP-SIZE}
 use Rattle.model.specs.Push as P
 use Rattle.model.specs.Push.{insertSorted, mediaEntry, mediaPlace, heard, countDropped, countReceived, afterQueued, afterDropped, frontOut, afterMedia, Fate, tooLate, recovered, redundant, repairEntry, repairFate, afterFate, afterRepair}
-use Rattle.model.specs.Poll.{givenUp, lostBelow, lose, countLost, drained, ready, front, handOut, afterPoll, afterPollNack}
+use Rattle.model.specs.Poll.{givenUp, lostBelow, lose, countLost, drained, ready, handsOut, front, handOut, afterPoll, afterPollNack}
 use Rattle.model.specs.Poll as Q
 use Rattle.model.specs.Calls.{Call, media, repair, poll, pollNack, timeoutReceive, timeoutNack, rtxStats, highestReceived, queued, dropped, packetOf, handed, nackAnswer, taken, answered}
 use Rattle.model.proofs.Lists.{by-cases, Each, each-first, each-imp, each-insert}
@@ -101,7 +101,7 @@ module _ (now : ℕ) (s : State) (b : Book) where
   out-moves : (es : List Entry)
       → Moved s (beside s b) (handOut (front now s es) (drained now s)) (cond (out? (front now s es)) (takeLowest (s .queue .config) (entryNumbers es) (giveUp (s .queue .config) (beside s b))) (giveUp (s .queue .config) (beside s b)))
       (entryNumbers (front now s es))
-  unfolding handOut front out? drained giveUp takeLowest lose countLost
+  unfolding handOut front handsOut out? drained giveUp takeLowest lose countLost
   out-moves [] = drained-moves
   out-moves (x ∷ es) =
       by-cases goes (ready (s .queue) (s .queue .config .settings .mode) (s .queue .last) now x)
@@ -139,7 +139,7 @@ given-media true = refl
 given-media false = refl
 
 given-poll : (now : ℕ) (s : State) (es : List Entry) → given (handed (s .queue) (front now s es)) ≡ map (λ (n : ℕ). n % 2 ^ 16) (entryNumbers (front now s es))
-unfolding given handed front packetOf
+unfolding given handed front handsOut packetOf
 given-poll now s [] = refl
 given-poll now s (x ∷ es) =
     by-cases (λ (l : List Entry). given (handed (s .queue) l) ≡ map (λ (n : ℕ). n % 2 ^ 16) (entryNumbers l)) (ready (s .queue) (s .queue .config .settings .mode) (s .queue .last) now x) (λ t. refl) (λ t. refl)
@@ -219,7 +219,7 @@ module _ (s : State) (out : List ℕ) (l : ListsOf s) (past : PastOf (s .queue .
   repair-past now x redundant = past
 
   poll-past : (now : ℕ) (es : List Entry) → Each Above es → PastOf mode (out ++ entryNumbers (front now s es)) (handOut (front now s es) (drained now s))
-  unfolding front handOut drained lose returnedOf
+  unfolding front handsOut handOut drained lose returnedOf
   poll-past now [] t = rw append-nil past
   poll-past now (x ∷ xs) t =
       by-cases goes (ready (s .queue) mode (s .queue .last) now x)

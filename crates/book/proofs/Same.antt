@@ -24,7 +24,7 @@ use Rattle.model.specs.Rules.{extended, is, Place, placeOf, waits, instantOf, s
 use Rattle.model.specs.Push as P
 use Rattle.model.specs.Push.{passed, insertSorted, extendedNumber, mediaEntry, heard, lastAfter, afterQueued, afterDropped, frontOut, afterMedia, repairEntry, repairFate, afterFate, afterRepair}
 use Rattle.model.specs.Poll as Q
-use Rattle.model.specs.Poll.{drained, lose, front, ready, handOut, afterPoll, afterPollNack}
+use Rattle.model.specs.Poll.{drained, lose, handsOut, front, ready, handOut, afterPoll, afterPollNack}
 use Rattle.model.specs.Calls.{Call, media, repair, poll, pollNack, timeoutReceive, timeoutNack, rtxStats, highestReceived, queued, dropped, nackAnswer, handed, taken, answered}
 use Rattle.model.proofs.Lists.{by-cases}
 use Rattle.book.specs.Sorted.{putIn}
@@ -144,7 +144,7 @@ module _ (now : ℕ) (s : State) (b : Book) (e : highestOf (s .queue .last) ≡ 
 
   same-out : (es : List Entry) → s .entries ≡ es
       → Same (s .queue .config) (handOut (front now s es) (drained now s)) (cond (out? (front now s es)) (takeLowest (s .queue .config) (entryNumbers es) (giveUp (s .queue .config) (beside s b))) (giveUp (s .queue .config) (beside s b)))
-  unfolding handOut front out? drained giveUp takeLowest lose
+  unfolding handOut front handsOut out? drained giveUp takeLowest lose
   same-out [] same = same-drained
   same-out (x ∷ es) same =
       by-cases goes (ready (s .queue) (s .queue .config .settings .mode) (s .queue .last) now x)

@@ -15,8 +15,8 @@ use Rattle.config.specs.declared.RtpInboundQueueMode.{RtpInboundQueueMode}
 use Rattle.config.specs.declared.RtpInboundQueueMode.the-variants.{Passthrough, SortedQueue}
 use Rattle.model.specs.Records.{Entry, Gap, Remembered, State, returnedOf}
 use Rattle.model.specs.Rules.{MAX-LOST-NACKED, below, gapsBelow, gapsFrom, due, nacked, nackedIfDue, tried, latest, remember, rememberedAfter}
-use Rattle.model.specs.Poll.{timingsOf, countLost, lose, givenUp, notGivenUp, drained, ready, front, lostBelow, leftFrom, handOut, afterPoll, nackAll, afterPollNack}
-use Rattle.model.specs.Table.{lostWith, pollRefusal, pollNackRefusal}
+use Rattle.model.specs.Poll.{timingsOf, countLost, lose, givenUp, notGivenUp, drained, ready, handsOut, front, lostBelow, lostUnder, leftFrom, handOut, afterPoll, nackAll, afterPollNack}
+use Rattle.model.specs.Table.{lostWith, pollRefusal, nacksRefusal, pollNackRefusal}
 use Rattle.model.proofs.Lists.{by-cases, Each, none, each-first, each-imp, each-append, each-drop, each-keep, each-trailing, each-map, Rising, rising-keep, rising-trailing, length-keep, length-trailing}
 use Rattle.model.proofs.Sound.{Ahead, GapIn, Apart, RememberedIn, Sound}
 use Rattle.model.proofs.SoundLists.{later, fewer, changed, remembering, out, from-ahead}
@@ -131,16 +131,20 @@ out-sound e es s at h fits =
           (l .remembered-in)));
     }
 
+nothing-sound : (now : ℕ) (s : State) → Sound s → s .queue .clock ≤ now → s .queue .counters .lost + length (lostWith now s []) ≤ largest → Sound (drained now s)
+unfolding lostWith lostUnder
+nothing-sound now s h later-now fits = drained-sound now s h later-now (omega (arith, length-append (givenUp (s .queue .config .settings) (s .queue .config .settings .mode) (s .gaps)) []))
+
 front-sound : (now : ℕ) (s : State) → Sound s → s .queue .clock ≤ now → (es : List Entry) → s .entries ≡ es → s .queue .counters .lost + length (lostWith now s (front now s es)) ≤ largest → Sound (handOut (front now s es) (drained now s))
-unfolding front lostWith handOut drained lose countLost
-front-sound now s h later-now [] at = λ fits. drained-sound now s h later-now fits
+unfolding front handsOut lostUnder lostWith handOut drained lose countLost
+front-sound now s h later-now [] at = nothing-sound now s h later-now
 front-sound now s h later-now (x ∷ xs) at =
     by-cases P (ready (s .queue) (s .queue .config .settings .mode) (s .queue .last) now x)
     (λ y fits.
     let given = givenUp (s .queue .config .settings) (s .queue .config .settings .mode) (s .gaps) in
     let both = length-append given (lostBelow (s .queue .config .settings .mode) (x .number) (drained now s .gaps)) in
     out-sound x xs (drained now s) at (drained-sound now s h later-now (omega arith)) (omega arith))
-    (λ n fits. drained-sound now s h later-now fits)
+    (λ n. nothing-sound now s h later-now)
   where
     P : List Entry → Type 0
     P l = s .queue .counters .lost + length (lostWith now s l) ≤ largest → Sound (handOut l (drained now s))
@@ -175,7 +179,7 @@ nacks-sound s h =
     }
 
 pub poll-nack-sound : (now : ℕ) (lent : List ℕ) (s : State) → Sound s → pollNackRefusal now lent s ≡ 0 → Sound (afterPollNack now s)
-unfolding pollNackRefusal afterPollNack drained lose
+unfolding nacksRefusal pollNackRefusal afterPollNack drained lose
 poll-nack-sound now lent s h e =
     let a = orElse-none _ _ e in
     let b = orElse-none _ _ (a .1) in

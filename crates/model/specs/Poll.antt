@@ -1,9 +1,9 @@
 -- 000's `poll`, `poll_nack`, the two timeouts and the figures; 01, "Hand-out" and "Gap".
 use mathlib.Core.Bool.{Bool, true, false, cond}
 use mathlib.Core.List.{List, [], _∷_, map}
-use Prim.Native.Nat.{ℕ, _+_, _-_, _%_, _^_}
+use Prim.Native.Nat.{ℕ, _+_, _-_}
 use lib.Dec.{leb}
-use lib.ListN.{length, drop}
+use lib.ListN.{length, take, drop}
 use Rattle.rtp.specs.Opt.{optMin}
 use Rattle.rtp.specs.declared.opt.Opt.{Opt}
 use Rattle.rtp.specs.declared.opt.Opt.the-variants.{None, Some}
@@ -24,7 +24,7 @@ use Rattle.model.specs.declared.Counters.{Counters}
 use Rattle.model.specs.declared.Queue.{Queue}
 use Rattle.model.specs.Lists.{keep, leading, trailing}
 use Rattle.model.specs.Records.{Entry, Gap, State, withClock, withReturned, withCounters, withLoss}
-use Rattle.model.specs.Rules.{gapsBelow, gapsFrom, timingsIn, dueAt, due, nackDue, tried, rememberedAfter}
+use Rattle.model.specs.Rules.{gapsBelow, gapsFrom, timingsIn, dueAt, due, nackDue, truncated, tried, rememberedAfter}
 
 unfoldable pub countLost : ℕ → Counters → Counters
 countLost n c = record { dropped = c .dropped; received = c .received; bytes = c .bytes; lost = c .lost + n }
@@ -44,12 +44,15 @@ unfoldable pub notGivenUp : Settings → RtpInboundQueueMode → List Gap → Li
 notGivenUp set Passthrough l = trailing (tried (set .«max_nack_attempts»)) l
 notGivenUp set SortedQueue l = l
 
--- the clock, then `drain_lost`
+-- the clock, then `drain_lost`: what it makes of the queue's record, by the gaps, and of the whole
+abbrev pub drainedQueue : ℕ → Queue → List Gap → Queue
+drainedQueue now q gaps = lose (length (givenUp (q .config .settings) (q .config .settings .mode) gaps)) (withClock q now)
+
 unfoldable pub drained : ℕ → State → State
 drained now s =
     let set = s .queue .config .settings in
     record {
-      queue = lose (length (givenUp set (set .mode) (s .gaps))) (withClock (s .queue) now);
+      queue = drainedQueue now (s .queue) (s .gaps);
       entries = s .entries;
       gaps = notGivenUp set (set .mode) (s .gaps);
       remembered = s .remembered;
@@ -69,10 +72,14 @@ ready q SortedQueue (LastReceived.Some r) now e =
     let set = q .config .settings in
     reaches (e .timestamp) (maxTimestamp (r .instant) (r .timestamp .0) (set .«clock_rate») (targetDelay set) now)
 
--- the entry that goes out, if one does, before those that stay
+-- whether the front entry goes out
+unfoldable pub handsOut : ℕ → Queue → List Entry → Bool
+handsOut now q [] = false
+handsOut now q (e ∷ es) = ready q (q .config .settings .mode) (q .last) now e
+
+-- the entry that goes out, if one does
 unfoldable pub front : ℕ → State → List Entry → List Entry
-front now s [] = []
-front now s (e ∷ es) = cond (ready (s .queue) (s .queue .config .settings .mode) (s .queue .last) now e) (e ∷ []) []
+front now s es = cond (handsOut now (s .queue) es) (take 1 es) []
 
 -- "Gaps below the one handed out become lost" in sorted mode
 unfoldable pub lostBelow : RtpInboundQueueMode → ℕ → List Gap → List Gap
@@ -82,6 +89,11 @@ lostBelow SortedQueue n l = gapsBelow n l
 unfoldable pub leftFrom : RtpInboundQueueMode → ℕ → List Gap → List Gap
 leftFrom Passthrough n l = l
 leftFrom SortedQueue n l = gapsFrom n l
+
+-- those below the entry that goes out, if one does
+unfoldable pub lostUnder : RtpInboundQueueMode → List Entry → List Gap → List Gap
+lostUnder mode [] l = []
+lostUnder mode (e ∷ es) l = lostBelow mode (e .number) l
 
 unfoldable pub handOut : List Entry → State → State
 handOut [] s = s
@@ -104,13 +116,13 @@ afterPoll now s = handOut (front now s (s .entries)) (drained now s)
 abbrev pub timingsOf : Queue → NackTimings
 timingsOf q = timingsIn (q .config) (q .rtx .rtt)
 
--- the gaps for which a NACK goes out
-unfoldable pub dueGaps : ℕ → State → List Gap
-dueGaps now s = keep (due (timingsOf (s .queue)) now) (s .gaps)
+-- the gaps for which a NACK goes out, once those given up are out
+unfoldable pub dueGaps : ℕ → Queue → List Gap → List Gap
+dueGaps now q gaps = keep (due (timingsOf q) now) (notGivenUp (q .config .settings) (q .config .settings .mode) gaps)
 
 -- "The due numbers come out ascending by extended number, as 16 bits"
 unfoldable pub nackNumbers : ℕ → State → List ℕ
-nackNumbers now s = map (λ (g : Gap). g .number % 2 ^ 16) (dueGaps now (drained now s))
+nackNumbers now s = map truncated (dueGaps now (s .queue) (s .gaps))
 
 unfoldable pub nackAll : ℕ → State → State
 nackAll now s =

@@ -1,7 +1,7 @@
 -- 01, "Numbers", "Gap", "Repair state" and "Hand-out": the rules that the queue and the book share. None of them looks at a session.
 use mathlib.Core.Bool.{Bool, true, false, cond, not}
 use mathlib.Core.List.{List, [], _∷_, _++_, map}
-use Prim.Native.Nat.{ℕ, suc, _+_, _-_, _*_, _^_}
+use Prim.Native.Nat.{ℕ, suc, _+_, _-_, _*_, _%_, _^_}
 use lib.Dec.{leb, ltb, eqb}
 use lib.ListN.{length, drop}
 use Rattle.rtp.specs.Numbers.{guessed}
@@ -98,6 +98,7 @@ unfoldable pub estimateIn : Bool → OptRtt → OptRtt
 estimateIn false rtt = OptRtt.None
 estimateIn true rtt = rtt
 
+-- after how long a gap is NACKed, first and again
 unfoldable pub timingsIn : Config → OptRtt → NackTimings
 timingsIn c rtt = nackTimings (c .settings) (estimateIn (c .senders .«has_rtx») rtt)
 
@@ -117,6 +118,14 @@ nackedIfDue t now g = cond (due t now g) (nacked now g) g
 
 abbrev pub nackDue : NackTimings → ℕ → List Gap → List Gap
 nackDue t now l = map (nackedIfDue t now) l
+
+-- the 16 bits that a NACK gives
+abbrev pub truncated : Gap → ℕ
+truncated g = g .number % 2 ^ 16
+
+-- no further NACK can be counted
+abbrev pub full : Gap → Bool
+full g = leb (2 ^ 32 - 1) (g .nacks)
 
 -- NACKed at least max times
 unfoldable pub tried : ℕ → Gap → Bool

@@ -1,7 +1,7 @@
 -- 01, "Where a call is turned back": the number of the first check that catches a call, or 0. "Checks run downwards within a call."
 use mathlib.Core.Bool.{Bool, true, false, cond, _&&_, _||_, not}
 use mathlib.Core.List.{List, [], _∷_, _++_}
-use Prim.Native.Nat.{ℕ, _+_, _-_, _^_}
+use Prim.Native.Nat.{ℕ, _+_, _-_}
 use lib.Dec.{leb, ltb}
 use lib.ListN.{length}
 use Rattle.rtp.specs.declared.opt.Opt.{Opt}
@@ -21,9 +21,9 @@ use Rattle.model.specs.declared.Counters.{Counters}
 use Rattle.model.specs.declared.Queue.{Queue}
 use Rattle.model.specs.Lists.{some?}
 use Rattle.model.specs.Records.{Entry, Gap, State}
-use Rattle.model.specs.Rules.{Place, first, near, far, fills, other, waits}
+use Rattle.model.specs.Rules.{Place, first, near, far, fills, other, waits, full}
 use Rattle.model.specs.Push.{mediaEntry, mediaPlace, afterQueued, overfull, Fate, tooLate, recovered, redundant, repairEntry, repairFate}
-use Rattle.model.specs.Poll.{givenUp, drained, front, lostBelow, dueGaps}
+use Rattle.model.specs.Poll.{givenUp, drained, front, lostUnder, dueGaps}
 use Rattle.model.specs.Valid.{sound}
 use Rattle.model.specs.Storage.{Storage, Stored, lengthsFit, entryPlaces, parse}
 use Rattle.model.specs.Calls.{Call, media, repair, poll, pollNack, timeoutReceive, timeoutNack, rtxStats, highestReceived}
@@ -71,7 +71,7 @@ countRefusal values = refuseIf (some? (ltb largest) values) COUNT
 
 -- 14, "or a NACK count 2^32 − 1"
 unfoldable pub nackCountRefusal : List Gap → ℕ
-nackCountRefusal due = refuseIf (some? (λ (g : Gap). leb (2 ^ 32 - 1) (g .nacks)) due) COUNT
+nackCountRefusal due = refuseIf (some? full due) COUNT
 
 -- ---- a media packet
 
@@ -140,22 +140,24 @@ repairRefusal now d s =
 
 -- the gaps that become lost as the entry at the front of the list goes out, if there is one: those given up, and those below it
 unfoldable pub lostWith : ℕ → State → List Entry → List Gap
-lostWith now s [] = givenUp (s .queue .config .settings) (s .queue .config .settings .mode) (s .gaps)
-lostWith now s (e ∷ es) =
-    givenUp (s .queue .config .settings) (s .queue .config .settings .mode) (s .gaps)
-    ++ lostBelow (s .queue .config .settings .mode) (e .number) (drained now s .gaps)
+lostWith now s es =
+    let set = s .queue .config .settings in
+    givenUp set (set .mode) (s .gaps) ++ lostUnder (set .mode) es (drained now s .gaps)
 
 unfoldable pub pollRefusal : ℕ → List ℕ → State → ℕ
 pollRefusal now out s =
     orElse (outputRefusal LARGEST-PAYLOAD out)
     (orElse (clockRefusal (s .queue) now) (countRefusal ((s .queue .counters .lost + length (lostWith now s (front now s (s .entries)))) ∷ [])))
 
+-- 14 of `poll_nack`: the numbers lost, then a NACK count
+unfoldable pub nacksRefusal : ℕ → Queue → List Gap → ℕ
+nacksRefusal now q gaps =
+    let set = q .config .settings in
+    orElse (countRefusal ((q .counters .lost + length (givenUp set (set .mode) gaps)) ∷ [])) (nackCountRefusal (dueGaps now q gaps))
+
 unfoldable pub pollNackRefusal : ℕ → List ℕ → State → ℕ
 pollNackRefusal now out s =
-    let set = s .queue .config .settings in
-    orElse (outputRefusal (set .«max_gaps») out)
-    (orElse (clockRefusal (s .queue) now)
-    (orElse (countRefusal ((s .queue .counters .lost + length (givenUp set (set .mode) (s .gaps))) ∷ [])) (nackCountRefusal (dueGaps now (drained now s)))))
+    orElse (outputRefusal (s .queue .config .settings .«max_gaps») out) (orElse (clockRefusal (s .queue) now) (nacksRefusal now (s .queue) (s .gaps)))
 
 -- ---- any call
 

@@ -13,12 +13,12 @@ use Rattle.config.specs.declared.NackTimings.{NackTimings}
 use Rattle.model.specs.declared.Bounds.{Bounds}
 use Rattle.model.specs.Lists.{keep, leading, some?}
 use Rattle.model.specs.Records.{Gap}
-use Rattle.model.specs.Rules.{dueAt, due, tried}
+use Rattle.model.specs.Rules.{dueAt, due, full, tried}
 use Rattle.model.specs.Poll.{nackTimeout}
 use Rattle.model.specs.Storage.{GAP-WORDS, gapOfWords, gapsOf}
 use Rattle.model.proofs.Laid.{length-gapsOf}
-use Rattle.packet_gaps.specs.Gaps.{full}
 use Rattle.model.specs.Valid.{gapSound}
+use Rattle.packet_gaps.specs.declared.check.Bounds.{Bounds}
 use Rattle.packet_gaps.proofs.Laws.{noGap, gap-numbers, number-at, read-is}
 use Rattle.packet_gaps.proofs.Turns.{drop-next, some-found, some-other, some-skip, keep-end, leading-none, leading-more, leading-end, left, left-bad, left-last, left-unordered, left-more, left-end}
 

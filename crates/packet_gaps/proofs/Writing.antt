@@ -15,11 +15,11 @@ use Rattle.words.proofs.Records.{Holds, holds-length, holds-at, holds-set}
 use Rattle.config.specs.declared.NackTimings.{NackTimings}
 use Rattle.model.specs.Lists.{keep, some?}
 use Rattle.model.specs.Records.{Gap}
-use Rattle.model.specs.Rules.{due, nacked, nackedIfDue, nackDue}
+use Rattle.model.specs.Rules.{due, nacked, nackedIfDue, nackDue, truncated}
 use Rattle.model.specs.Storage.{GAP-WORDS, gapWords, gapOfWords, gapsOf}
 use Rattle.model.proofs.Lists.{length-keep}
 use Rattle.model.proofs.Laid.{gap-wide, gaps-held, gap-coded, length-gapsOf}
-use Rattle.packet_gaps.specs.Gaps.{GapsIn, truncated}
+use Rattle.packet_gaps.specs.Gaps.{GapsIn}
 use Rattle.packet_gaps.proofs.Laws.{noGap, gap-at}
 use Rattle.packet_gaps.proofs.Turns.{or-left, or-right, drop-next, take-next}
 

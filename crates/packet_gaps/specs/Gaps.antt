@@ -2,7 +2,7 @@
 use mathlib.Core.Path.{_≡_}
 use mathlib.Core.Bool.{Bool, _&&_}
 use mathlib.Core.List.{List}
-use Prim.Native.Nat.{ℕ, _*_, _-_, _^_, _%_, _≤_, _<_}
+use Prim.Native.Nat.{ℕ, _*_, _^_, _≤_, _<_}
 use lib.Dec.{leb}
 use lib.ListN.{length}
 use Rattle.words.specs.Blocks.{laid}
@@ -29,11 +29,3 @@ instantsFit g = leb (g .detected) largest && leb (g .nackedAt) largest
 pub record Small (t : NackTimings) : Type 0 where
   pub initial : t .initial < 2 ^ 54
   pub resend : t .resend < 2 ^ 54
-
--- the 16 bits that a NACK gives
-abbrev pub truncated : Records.Gap → ℕ
-truncated g = g .number % 2 ^ 16
-
--- no further NACK can be counted
-abbrev pub full : Records.Gap → Bool
-full g = leb (2 ^ 32 - 1) (g .nacks)

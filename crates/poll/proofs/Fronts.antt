@@ -8,9 +8,8 @@ use lib.ListN.{length, take, drop}
 use Rattle.words.specs.Blocks.{blocks}
 use Rattle.model.specs.declared.Queue.{Queue}
 use Rattle.model.specs.Records.{Entry, State}
-use Rattle.model.specs.Poll.{ready, front}
+use Rattle.model.specs.Poll.{ready, handsOut, front}
 use Rattle.model.specs.Storage.{ENTRY-WORDS, PAYLOAD-BYTES, entryOf, entriesOf}
-use Rattle.poll.specs.Steps.{handsOut}
 
 module _ (now : ℕ) (q : Queue) (words payloads : List ℕ) where
   pub hands-none : (n : ℕ) → n ≡ 0 → false ≡ handsOut now q (entriesOf words payloads n)
@@ -25,9 +24,8 @@ module _ (now : ℕ) (q : Queue) (words payloads : List ℕ) where
 
 module _ (now : ℕ) (s : State) where
   pub front-is : (es : List Entry) (b : Bool) → b ≡ handsOut now (s .queue) es → front now s es ≡ cond b (take 1 es) []
-  unfolding front handsOut
-  front-is [] b e = rw e
-  front-is (x ∷ es) b e = rw e
+  unfolding front
+  front-is es b e = rw e
 
   -- one goes out, so there is one
   pub hands-some : (es : List Entry) → handsOut now (s .queue) es ≡ true → length es ≡ 0 → ⊥

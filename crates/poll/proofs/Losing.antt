@@ -10,21 +10,21 @@ use Rattle.config.specs.declared.Settings.{Settings}
 use Rattle.config.specs.declared.RtpInboundQueueMode.{RtpInboundQueueMode}
 use Rattle.config.specs.declared.RtpInboundQueueMode.the-variants.{Passthrough, SortedQueue}
 use Rattle.model.specs.Records.{Entry, Gap, State, gapNumbers}
-use Rattle.model.specs.Poll.{givenUp, notGivenUp, drained, front, lostBelow}
+use Rattle.model.specs.Poll.{givenUp, notGivenUp, drained, handsOut, front, lostBelow, lostUnder}
 use Rattle.model.specs.Table.{lostWith}
 use Rattle.poll.specs.declared.Due.{Due}
-use Rattle.poll.specs.Steps.{handsOut, lostUnder, dueFor}
+use Rattle.poll.specs.Steps.{dueFor}
 use Rattle.poll.proofs.Parted.{given-up-le, lost-le}
 use Rattle.poll.proofs.Fronts.{front-is}
 
 -- what is given up does not change what is below
-pub same-below : (set : Settings) (mode : RtpInboundQueueMode) (n : ℕ) (l : List Gap) → lostBelow mode n (notGivenUp set mode l) ≡ lostBelow mode n l
+same-below : (set : Settings) (mode : RtpInboundQueueMode) (n : ℕ) (l : List Gap) → lostBelow mode n (notGivenUp set mode l) ≡ lostBelow mode n l
 unfolding lostBelow notGivenUp
 same-below set Passthrough n l = refl
 same-below set SortedQueue n l = refl
 
-both-le : (set : Settings) (mode : RtpInboundQueueMode) (es : List Entry) (l : List Gap) → ascends (gapNumbers l) ≡ true → length (givenUp set mode l) + length (lostUnder mode es l) ≤ length l
-unfolding lostUnder lostBelow givenUp
+both-le : (set : Settings) (mode : RtpInboundQueueMode) (es : List Entry) (l : List Gap) → ascends (gapNumbers l) ≡ true → length (givenUp set mode l) + length (lostUnder mode es (notGivenUp set mode l)) ≤ length l
+unfolding lostUnder lostBelow givenUp notGivenUp
 both-le set mode [] l a = omega (arith, given-up-le set mode l)
 both-le set Passthrough (e ∷ es) l a = omega (arith, given-up-le set Passthrough l)
 both-le set SortedQueue (e ∷ es) l a = omega (arith, lost-le (e .number) l a SortedQueue)
@@ -42,21 +42,16 @@ module _ (now : ℕ) (s : State) where
 
   pub due-some : (given lost : ℕ) (b : Bool) (x : Entry) → given ≡ length (givenUp set (set .mode) (s .gaps)) → b ≡ handsOut now (s .queue) (s .entries) → b ≡ true → take 1 (s .entries) ≡ x ∷ [] → lost ≡ length (lostBelow (set .mode) (x .number) (s .gaps))
       → record { given = given; «goes_out» = true; lost = lost } ≡ dueFor now s
-  unfolding dueFor lostUnder
-  due-some given lost b x eg e f t el = rw (eg, ← e, front-is now s (s .entries) b e, f, t, el)
+  unfolding dueFor lostUnder drained
+  due-some given lost b x eg e f t el = rw (eg, ← e, front-is now s (s .entries) b e, f, t, el, same-below set (set .mode) (x .number) (s .gaps))
 
   -- ---- 14
 
-  with-is : (l : List Entry) → length (givenUp set (set .mode) (s .gaps)) + length (lostUnder (set .mode) l (s .gaps)) ≡ length (lostWith now s l)
-  unfolding lostWith lostUnder drained
-  with-is [] = omega arith
-  with-is (x ∷ l) = sym (rw (same-below set (set .mode) (x .number) (s .gaps)) (length-append (givenUp set (set .mode) (s .gaps)) (lostBelow (set .mode) (x .number) (s .gaps))))
-
   module _ (d : Due) (ed : d ≡ dueFor now s) where
     pub due-counts : d .given + d .lost ≡ length (lostWith now s (front now s (s .entries)))
-    unfolding dueFor
-    due-counts = rw ed (with-is (front now s (s .entries)))
+    unfolding dueFor lostWith
+    due-counts = rw ed (sym (length-append (givenUp set (set .mode) (s .gaps)) _))
 
     pub due-few : ascends (gapNumbers (s .gaps)) ≡ true → d .given + d .lost ≤ length (s .gaps)
-    unfolding dueFor
+    unfolding dueFor drained
     due-few a = rw ed (both-le set (set .mode) (front now s (s .entries)) (s .gaps) a)

@@ -19,18 +19,18 @@ use Rattle.rtx_state.specs.RoundTrip.{optRttInRange}
 use Rattle.model.specs.declared.Queue.{Queue}
 use Rattle.model.specs.declared.Session.{Session}
 use Rattle.model.specs.Lists.{keep, some?, every?}
-use Rattle.model.specs.Records.{Gap, State}
-use Rattle.model.specs.Rules.{due, nackDue}
+use Rattle.model.specs.Records.{Gap}
+use Rattle.model.specs.Rules.{due, nackDue, truncated, full}
 use Rattle.model.specs.Poll.{lose, givenUp, notGivenUp, drained, timingsOf, dueGaps, nackNumbers, nackAll, afterPollNack}
 use Rattle.model.specs.Storage.{Stored, GAP-WORDS, gapWords, gapsOf, parse, write}
 use Rattle.model.specs.Calls.{Answer, pollNack, refused, taken, answered, outputOf, outputAfter, nackAnswer}
-use Rattle.model.specs.Table.{refuseIf, sessionSound, outputRefusal, clockRefusal, countRefusal, nackCountRefusal, pollNackRefusal, callRefusal}
+use Rattle.model.specs.Table.{refuseIf, sessionSound, outputRefusal, clockRefusal, countRefusal, nackCountRefusal, nacksRefusal, pollNackRefusal, callRefusal}
 use Rattle.model.specs.Did.{accepted}
 use Rattle.model.proofs.Laid.{length-entriesOf, length-rememberedOf}
-use Rattle.packet_gaps.specs.Gaps.{GapsIn, instantsFit, Small, truncated, full}
+use Rattle.packet_gaps.specs.Gaps.{GapsIn, instantsFit, Small}
 use Rattle.model.specs.Contract.{stored, Does}
 use Rattle.storage.specs.Settled.{Settled}
-use Rattle.poll.specs.Steps.{Leaves, Nacking, dueLeft, nacksRefusal, drainedSession}
+use Rattle.poll.specs.Steps.{Leaves, Nacking, drainedSession}
 use Rattle.storage.proofs.Settled.{checked, ready, holding, settled-of, settings-in, instants}
 use Rattle.poll.proofs.Early.{earlyRefusal, is-sound, is-room, is-timely, early-refused, late-refused, goes-on}
 use Rattle.poll.proofs.Holding.{leaves-write, lost-in}
@@ -49,8 +49,8 @@ module _ (now : ℕ) (q : Queue) (l : List Gap) (t : NackTimings) (et : t ≡ ti
   abbrev set : Settings
   set = q .config .settings
 
-  due-left : keep (due t now) (notGivenUp set (set .mode) l) ≡ dueLeft now q l
-  unfolding dueLeft
+  due-left : keep (due t now) (notGivenUp set (set .mode) l) ≡ dueGaps now q l
+  unfolding dueGaps
   due-left = rw et refl
 
   -- 14, where the first k gaps are given up
@@ -63,10 +63,10 @@ module _ (now : ℕ) (q : Queue) (l : List Gap) (t : NackTimings) (et : t ≡ ti
     lost-refused h = sym (rw lost-is (orElse-first r _ h))
 
     module _ (z : r ≡ 0) (b : Bool) (eb : b ≡ some? full (keep (due t now) (drop k l))) where
-      full-is : some? full (dueLeft now q l) ≡ b
+      full-is : some? full (dueGaps now q l) ≡ b
       full-is = sym (eb ∙ ap (λ (i : ℕ). some? full (keep (due t now) (drop i l))) ek ∙ ap (λ (x : List Gap). some? full (keep (due t now) x)) (sym (not-given-up set (set .mode) l)) ∙ ap (some? full) due-left)
 
-      after-lost : nacksRefusal now q l ≡ nackCountRefusal (dueLeft now q l)
+      after-lost : nacksRefusal now q l ≡ nackCountRefusal (dueGaps now q l)
       unfolding nacksRefusal
       after-lost = orElse-second _ _ (lost-is ∙ z)
 
@@ -77,10 +77,6 @@ module _ (now : ℕ) (q : Queue) (l : List Gap) (t : NackTimings) (et : t ≡ ti
       pub count-passed : b ≡ false → 0 ≡ nacksRefusal now q l
       unfolding nackCountRefusal refuseIf
       count-passed f = sym (after-lost ∙ rw (full-is, f))
-
-due-gaps : (now : ℕ) (s : State) → dueGaps now (drained now s) ≡ dueLeft now (s .queue) (s .gaps)
-unfolding dueGaps drained dueLeft lose
-due-gaps now s = refl
 
 -- ---- after `drain`
 
@@ -96,7 +92,7 @@ module _ (now : ℕ) (s : Session) (old g : List ℕ) (given : ℕ) (t : NackTim
   read-is : gapsOf g (d .gaps) ≡ stay
   read-is = ap (gapsOf g) count-is ∙ gaps-left s old g (h .gaps-in .room) eg
 
-  due-is : keep (due t now) (gapsOf g (d .gaps)) ≡ dueLeft now (s .queue) (gapsOf old (s .gaps))
+  due-is : keep (due t now) (gapsOf g (d .gaps)) ≡ dueGaps now (s .queue) (gapsOf old (s .gaps))
   due-is = ap (keep (due t now)) read-is ∙ due-left now (s .queue) (gapsOf old (s .gaps)) t (h .timings-are)
 
   pub left-held : GapsIn g (d .gaps)
@@ -114,8 +110,8 @@ module _ (now : ℕ) (s : Session) (old g : List ℕ) (given : ℕ) (t : NackTim
   pub left-none-full : some? full (keep (due t now) (gapsOf g (d .gaps))) ≡ false
   left-none-full = ap (some? full) due-is ∙ h .none-full
 
-  pub left-count : (n : ℕ) → n ≡ length (keep (due t now) (gapsOf g (d .gaps))) → length (map truncated (dueLeft now (s .queue) (gapsOf old (s .gaps)))) ≡ n
-  left-count n e = length-map (dueLeft now (s .queue) (gapsOf old (s .gaps))) truncated ∙ sym (e ∙ ap length due-is)
+  pub left-count : (n : ℕ) → n ≡ length (keep (due t now) (gapsOf g (d .gaps))) → length (map truncated (dueGaps now (s .queue) (gapsOf old (s .gaps)))) ≡ n
+  left-count n e = length-map (dueGaps now (s .queue) (gapsOf old (s .gaps))) truncated ∙ sym (e ∙ ap length due-is)
 
   pub left-words : (g′ : List ℕ) → g′ ≡ laid gapWords (length g) (nackDue t now (gapsOf g (d .gaps))) → g′ ≡ laid gapWords (length old) (nackDue (timingsOf (s .queue)) now stay)
   left-words g′ e =
@@ -124,7 +120,7 @@ module _ (now : ℕ) (s : Session) (old g : List ℕ) (given : ℕ) (t : NackTim
       ∙ ap (λ (l : List Gap). laid gapWords (length old) (nackDue t now l)) read-is
       ∙ ap (λ (x : NackTimings). laid gapWords (length old) (nackDue x now stay)) (h .timings-are)
 
-  pub left-out : (out o : List ℕ) → o ≡ over (map truncated (keep (due t now) (gapsOf g (d .gaps)))) out → o ≡ over (map truncated (dueLeft now (s .queue) (gapsOf old (s .gaps)))) out
+  pub left-out : (out o : List ℕ) → o ≡ over (map truncated (keep (due t now) (gapsOf g (d .gaps)))) out → o ≡ over (map truncated (dueGaps now (s .queue) (gapsOf old (s .gaps)))) out
   left-out out o e = e ∙ ap (λ (l : List Gap). over (map truncated l) out) due-is
 
 -- ---- the call
@@ -155,24 +151,18 @@ module _ (now : ℕ) (m : Stored) (h : Settled m) (out : List ℕ) where
   unfolding afterPollNack nackAll drained parse lose
   nack-written m′ l = leaves-write (m .storage) (afterPollNack now (parse m)) (holding m h .lengths) m′ l
 
-  due-numbers : map truncated (dueGaps now (drained now (parse m))) ≡ map truncated (dueLeft now (m .session .queue) gaps)
-  unfolding parse
-  due-numbers = ap (map truncated) (due-gaps now (parse m))
-
   nack-accepted : (d : Session) (a : Answer) (g o : List ℕ)
       → d ≡ drainedSession now (m .session) gaps
-      → a ≡ nackAnswer (map truncated (dueLeft now (m .session .queue) gaps))
+      → a ≡ nackAnswer (map truncated (dueGaps now (m .session .queue) gaps))
       → g ≡ laid gapWords (length (m .storage .gaps)) (nackDue (timingsOf (m .session .queue)) now (notGivenUp set′ (set′ .mode) gaps))
-      → o ≡ over (map truncated (dueLeft now (m .session .queue) gaps)) out
+      → o ≡ over (map truncated (dueGaps now (m .session .queue) gaps)) out
       → accepted (pollNack now out) (parse m) ≡ record { answer = a; stored = stored d (m .storage .entries) (m .storage .payloads) g (m .storage .remembered); output = o }
-  unfolding accepted answered taken outputAfter nackNumbers
+  unfolding accepted answered taken outputAfter nackNumbers parse
   nack-accepted d a g o ed ea eg eo =
       let after : Stored = stored d (m .storage .entries) (m .storage .payloads) g (m .storage .remembered) in
       let w : after ≡ write (afterPollNack now (parse m)) = nack-written after (nack-leaves d g ed eg) in
-      let n : map truncated (dueGaps now (drained now (parse m))) ≡ map truncated (dueLeft now (m .session .queue) gaps) = due-numbers in
-      ap (λ (l : List ℕ). record { answer = nackAnswer l; stored = write (afterPollNack now (parse m)); output = over l out }) n
-      ∙ ap (λ (x : Stored). record { answer = nackAnswer (map truncated (dueLeft now (m .session .queue) gaps)); stored = x; output = over (map truncated (dueLeft now (m .session .queue) gaps)) out }) (sym w)
-      ∙ ap (λ (x : Answer). record { answer = x; stored = after; output = over (map truncated (dueLeft now (m .session .queue) gaps)) out }) (sym ea)
+      ap (λ (x : Stored). record { answer = nackAnswer (map truncated (dueGaps now (m .session .queue) gaps)); stored = x; output = over (map truncated (dueGaps now (m .session .queue) gaps)) out }) (sym w)
+      ∙ ap (λ (x : Answer). record { answer = x; stored = after; output = over (map truncated (dueGaps now (m .session .queue) gaps)) out }) (sym ea)
       ∙ ap (λ (x : List ℕ). record { answer = a; stored = after; output = x }) (sym eo)
 
 -- an accepted call finds what `accept` asks for
@@ -198,7 +188,7 @@ module _ (now : ℕ) (m : Stored) (h : sessionSound m ≡ true) (e p g r : List 
         small = small;
         lost-fits = lost-in m (k .checked);
         instants = ap (every? instantsFit) (k .gaps-are) ∙ instants m (k .checked) c;
-        none-full = ap (λ (l : List Gap). some? full (dueLeft now q′ l)) (k .gaps-are) ∙ passes (some? full (dueLeft now q′ (parse m .gaps))) COUNT 0 (omega arith) (orElse-none _ _ z .1) .0;
+        none-full = ap (λ (l : List Gap). some? full (dueGaps now q′ l)) (k .gaps-are) ∙ passes (some? full (dueGaps now q′ (parse m .gaps))) COUNT 0 (omega arith) (orElse-none _ _ z .1) .0;
       }
 
 module _ (now : ℕ) (m : Stored) (out : List ℕ) where
@@ -212,7 +202,7 @@ module _ (now : ℕ) (m : Stored) (out : List ℕ) where
   listed = gapsOf (m .storage .gaps) (m .session .gaps)
 
   checks : callRefusal (pollNack now out) (parse m) ≡ orElse (outputRefusal places out) (orElse (clockRefusal q now) (nacksRefusal now q listed))
-  unfolding callRefusal pollNackRefusal nacksRefusal dueGaps drained dueLeft lose parse
+  unfolding callRefusal pollNackRefusal parse
   checks = refl
 
   module _ (r : ℕ) (e : r ≡ earlyRefusal places out now m) where
@@ -254,9 +244,9 @@ module _ (now : ℕ) (m : Stored) (out : List ℕ) where
 
           pub nack-done : (d : Session) (a : Answer) (g′ o : List ℕ)
               → d ≡ drainedSession now (m .session) (gapsOf g (m .session .gaps))
-              → a ≡ nackAnswer (map truncated (dueLeft now q (gapsOf g (m .session .gaps))))
+              → a ≡ nackAnswer (map truncated (dueGaps now q (gapsOf g (m .session .gaps))))
               → g′ ≡ laid gapWords (length g) (nackDue (timingsOf q) now (notGivenUp (q .config .settings) (q .config .settings .mode) (gapsOf g (m .session .gaps))))
-              → o ≡ over (map truncated (dueLeft now q (gapsOf g (m .session .gaps)))) out
+              → o ≡ over (map truncated (dueGaps now q (gapsOf g (m .session .gaps)))) out
               → Does (pollNack now out) m a (stored d e′ p g′ r′) o
           nack-done d a g′ o hd ha hg ho =
               let k = settled-of m (stored (m .session) e′ p g r′) nack-sound w in

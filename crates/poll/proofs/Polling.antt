@@ -16,7 +16,7 @@ use Rattle.rtp_packet.specs.Datagram.{LARGEST-PAYLOAD}
 use Rattle.config.specs.Valid.{settingsValid}
 use Rattle.model.specs.declared.Session.{Session}
 use Rattle.model.specs.Records.{Entry, gapNumbers}
-use Rattle.model.specs.Poll.{lose, givenUp, notGivenUp, drained, front, handOut, afterPoll}
+use Rattle.model.specs.Poll.{lose, givenUp, notGivenUp, drained, handsOut, front, lostUnder, handOut, afterPoll}
 use Rattle.model.specs.Valid.{lastSound}
 use Rattle.model.specs.Storage.{Stored, ENTRY-WORDS, PAYLOAD-BYTES, GAP-WORDS, entryOf, entriesOf, gapsOf, gapWords, parse, write}
 use Rattle.model.specs.Calls.{Answer, poll, nothing, refused, taken, answered, outputOf, outputAfter, handed, packetOf, payloadOut}
@@ -28,12 +28,12 @@ use Rattle.model.specs.Contract.{stored, Does}
 use Rattle.storage.specs.Settled.{Settled}
 use Rattle.storage.proofs.Settled.{checked, holding, settled-of, settings-in, last-in}
 use Rattle.poll.specs.declared.Due.{Due}
-use Rattle.poll.specs.Steps.{Handing, Leaves, handsOut, lostUnder, dueFor, drainedSession}
+use Rattle.poll.specs.Steps.{Handing, Leaves, dueFor, drainedSession}
 use Rattle.poll.proofs.Early.{earlyRefusal, is-sound, is-room, is-timely, early-refused, late-refused, goes-on}
 use Rattle.poll.proofs.Holding.{leaves-write, lost-in}
 use Rattle.poll.proofs.Drained.{gaps-left, drained-lengths, drained-written, drained-parsed, drained-handing}
 use Rattle.poll.proofs.Fronts.{front-is, first-is, hands-some}
-use Rattle.poll.proofs.Losing.{same-below, due-counts, due-few}
+use Rattle.poll.proofs.Losing.{due-counts, due-few}
 
 -- the first entry, where there is one
 unfoldable firstOf : Stored → Entry
@@ -92,13 +92,13 @@ module _ (now : ℕ) (m : Stored) (h : Settled m) (due : Due) (ed : due ≡ dueF
 
       -- the gaps below it are those that were counted before `drain`
       pub is-lost : due .lost ≡ length (lostUnder (s .queue .config .settings .mode) (take 1 (entriesOf (m .storage .entries) (m .storage .payloads) (s .entries))) (gapsOf g (s .gaps)))
-      unfolding dueFor lostUnder drainedSession lose parse
+      unfolding dueFor drainedSession drained lose parse
       is-lost =
           let set = m .session .queue .config .settings in
           let before = gapsOf (m .storage .gaps) (m .session .gaps) in
           let out-is : front now (parse m) (parse m .entries) ≡ firstOf m ∷ [] = front-is now (parse m) (parse m .entries) (due .«goes_out») eb ∙ rw z first in
           let left : gapsOf g (length (notGivenUp set (set .mode) before)) ≡ notGivenUp set (set .mode) before = gaps-left (m .session) (m .storage .gaps) g (holding m h .gaps-in .room) eg in
-          ap (λ (d : Due). d .lost) ed ∙ rw (out-is, first-after, es, left, same-below set (set .mode) (firstOf m .number) before)
+          ap (λ (d : Due). d .lost) ed ∙ rw (out-is, first-after, es, left)
 
       handed-written : (m′ : Stored) → Leaves (handOut (firstOf m ∷ []) (drained now (parse m))) (after .storage) m′ → m′ ≡ write (handOut (firstOf m ∷ []) (drained now (parse m)))
       unfolding handOut drained lose parse

@@ -1,23 +1,19 @@
 -- What the steps of `poll` and `poll_nack` find in storage and leave there.
 use mathlib.Core.Path.{_≡_}
-use mathlib.Core.Bool.{Bool, true, false}
-use mathlib.Core.List.{List, [], _∷_}
+use mathlib.Core.Bool.{true, false}
+use mathlib.Core.List.{List}
 use Prim.Native.Nat.{ℕ, _+_, _*_, _≤_, _<_, _^_}
 use lib.ListN.{length}
 use Rattle.words.specs.Blocks.{laid}
 use Rattle.words.specs.Order.{ascends}
-use Rattle.refusals.specs.Refusals.{orElse}
 use Rattle.config.specs.declared.NackTimings.{NackTimings}
-use Rattle.config.specs.declared.RtpInboundQueueMode.{RtpInboundQueueMode}
-use Rattle.model.specs.declared.Queue.{Queue}
 use Rattle.model.specs.declared.Session.{Session}
-use Rattle.model.specs.Records.{Entry, Gap, State, gapNumbers, withClock}
-use Rattle.model.specs.Rules.{MAX-LOST-NACKED, due}
-use Rattle.model.specs.Lists.{keep, some?, every?}
-use Rattle.model.specs.Poll.{lose, givenUp, notGivenUp, ready, front, lostBelow, timingsOf}
+use Rattle.model.specs.Records.{Gap, State, gapNumbers}
+use Rattle.model.specs.Rules.{MAX-LOST-NACKED, full}
+use Rattle.model.specs.Lists.{some?, every?}
+use Rattle.model.specs.Poll.{givenUp, notGivenUp, drainedQueue, drained, handsOut, front, lostUnder, timingsOf, dueGaps}
 use Rattle.model.specs.Storage.{Storage, Stored, REMEMBERED-WORDS, entryWords, payloadBytes, gapWords, rememberedWords, gapsOf, write}
-use Rattle.model.specs.Table.{countRefusal, nackCountRefusal}
-use Rattle.packet_gaps.specs.Gaps.{GapsIn, instantsFit, Small, full}
+use Rattle.packet_gaps.specs.Gaps.{GapsIn, instantsFit, Small}
 use Rattle.entries.specs.Entries.{EntriesIn}
 use Rattle.lost_nacked.specs.Remembered.{RememberedIn}
 use Rattle.poll.specs.declared.Due.{Due}
@@ -41,37 +37,17 @@ pub record Leaves (s : State) (t : Storage) (m : Stored) : Type 0 where
   pub gaps-are : m .storage .gaps ≡ laid gapWords (length (t .gaps)) (s .gaps)
   pub remembered-are : m .storage .remembered ≡ laid rememberedWords (length (t .remembered)) (s .remembered)
 
--- whether the front entry goes out: `front` of `model` has it then
-unfoldable pub handsOut : ℕ → Queue → List Entry → Bool
-handsOut now q [] = false
-handsOut now q (e ∷ es) = ready q (q .config .settings .mode) (q .last) now e
-
 -- the session beside the storage of `drained`
 unfoldable pub drainedSession : ℕ → Session → List Gap → Session
 drainedSession now s gaps =
     let set = s .queue .config .settings in
-    record { queue = lose (length (givenUp set (set .mode) gaps)) (withClock (s .queue) now); entries = s .entries; gaps = length (notGivenUp set (set .mode) gaps); remembered = s .remembered }
-
--- the gaps that are lost below the entry at the front of the list, if there is one
-unfoldable pub lostUnder : RtpInboundQueueMode → List Entry → List Gap → List Gap
-lostUnder mode [] gaps = []
-lostUnder mode (e ∷ es) gaps = lostBelow mode (e .number) gaps
+    record { queue = drainedQueue now (s .queue) gaps; entries = s .entries; gaps = length (notGivenUp set (set .mode) gaps); remembered = s .remembered }
 
 -- what `poll` does, by counts: the gaps given up, whether the front entry goes out, and the gaps lost below it
 unfoldable pub dueFor : ℕ → State → Due
 dueFor now s =
     let set = s .queue .config .settings in
-    record { given = length (givenUp set (set .mode) (s .gaps)); «goes_out» = handsOut now (s .queue) (s .entries); lost = length (lostUnder (set .mode) (front now s (s .entries)) (s .gaps)) }
-
--- the gaps that are NACKed once those given up are out
-unfoldable pub dueLeft : ℕ → Queue → List Gap → List Gap
-dueLeft now q gaps = keep (due (timingsOf q) now) (notGivenUp (q .config .settings) (q .config .settings .mode) gaps)
-
--- 14 of `poll_nack`: the numbers lost, then a NACK count
-unfoldable pub nacksRefusal : ℕ → Queue → List Gap → ℕ
-nacksRefusal now q gaps =
-    let set = q .config .settings in
-    orElse (countRefusal ((q .counters .lost + length (givenUp set (set .mode) gaps)) ∷ [])) (nackCountRefusal (dueLeft now q gaps))
+    record { given = length (givenUp set (set .mode) (s .gaps)); «goes_out» = handsOut now (s .queue) (s .entries); lost = length (lostUnder (set .mode) (front now s (s .entries)) (drained now s .gaps)) }
 
 -- each gap can be NACKed that is due by these timings, once the first ones are given up
 pub record Nacking (now : ℕ) (s : Session) (gaps : List ℕ) (given : ℕ) (timings : NackTimings) : Type 0 where
@@ -81,4 +57,4 @@ pub record Nacking (now : ℕ) (s : Session) (gaps : List ℕ) (given : ℕ) (ti
   pub small : Small timings
   pub lost-fits : s .queue .counters .lost + s .gaps < 2 ^ 64
   pub instants : every? instantsFit (gapsOf gaps (s .gaps)) ≡ true
-  pub none-full : some? full (dueLeft now (s .queue) (gapsOf gaps (s .gaps))) ≡ false
+  pub none-full : some? full (dueGaps now (s .queue) (gapsOf gaps (s .gaps))) ≡ false

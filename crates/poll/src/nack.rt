@@ -7,14 +7,15 @@ ghost use lib.ListN.{length};
 ghost use Rattle.words.specs.Blocks.{laid};
 ghost use Rattle.words.specs.Words.{over};
 ghost use Rattle.model.specs.Lists.{every?};
-ghost use Rattle.model.specs.Rules.{nackDue};
-ghost use Rattle.model.specs.Poll.{givenUp, notGivenUp, timingsOf};
+ghost use Rattle.model.specs.Rules.{nackDue, truncated};
+ghost use Rattle.model.specs.Poll.{givenUp, notGivenUp, timingsOf, dueGaps};
 ghost use Rattle.model.specs.Calls as Calls;
 ghost use Rattle.model.specs.Storage.{GAP-WORDS, gapWords, gapsOf};
-ghost use Rattle.packet_gaps.specs.Gaps.{truncated, instantsFit, Small};
+ghost use Rattle.model.specs.Table.{nacksRefusal};
+ghost use Rattle.packet_gaps.specs.Gaps.{instantsFit, Small};
 ghost use Rattle.poll.specs.Answers as Answers;
 ghost use Rattle.model.specs.Contract.{stored, Does};
-ghost use Rattle.poll.specs.Steps.{Nacking, dueLeft, drainedSession, nacksRefusal};
+ghost use Rattle.poll.specs.Steps.{Nacking, drainedSession};
 use config::NackTimings;
 use model::Session;
 
@@ -71,9 +72,9 @@ fn accept(
     requires { ⌜ Nacking instant s (now gaps) given timings ⌝ }
     requires { ⌜ s .gaps ≤ length (now out) ⌝ }
     ensures { λ r. ⌜ r .session ≡ drainedSession instant s (gapsOf (now (gaps .entry)) (s .gaps)) ⌝ }
-    ensures { λ r. ⌜ Answers.nackAnswer (r .answer) ≡ Calls.nackAnswer (map truncated (dueLeft instant (s .queue) (gapsOf (now (gaps .entry)) (s .gaps)))) ⌝ }
+    ensures { λ r. ⌜ Answers.nackAnswer (r .answer) ≡ Calls.nackAnswer (map truncated (dueGaps instant (s .queue) (gapsOf (now (gaps .entry)) (s .gaps)))) ⌝ }
     ensures { λ r. ⌜ now (gaps .exit) ≡ laid gapWords (length (now (gaps .entry))) (nackDue (timingsOf (s .queue)) instant (notGivenUp (s .queue .config .settings) (s .queue .config .settings .mode) (gapsOf (now (gaps .entry)) (s .gaps)))) ⌝ }
-    ensures { λ r. ⌜ now (out .exit) ≡ over (map truncated (dueLeft instant (s .queue) (gapsOf (now (gaps .entry)) (s .gaps)))) (now (out .entry)) ⌝ }
+    ensures { λ r. ⌜ now (out .exit) ≡ over (map truncated (dueGaps instant (s .queue) (gapsOf (now (gaps .entry)) (s .gaps)))) (now (out .entry)) ⌝ }
 {
     let drained = super::drain(s, gaps, given, instant);
     let count = packet_gaps::nacks::poll_nacks(gaps, drained.gaps, instant, timings, out);

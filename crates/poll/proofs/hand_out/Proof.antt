@@ -5,11 +5,10 @@ use native.Mathlib.Omega.{arith}
 use lib.ListN.{length}
 use mathlib.Core.List.{List}
 use Rattle.model.specs.Records.{Entry}
-use Rattle.model.specs.Poll.{lostBelow}
+use Rattle.model.specs.Poll.{lostBelow, lostUnder}
 use Rattle.model.specs.Storage.{gapsOf}
 use Rattle.model.specs.Calls.{handed, packet}
 use Rattle.poll.specs.Answers.{pollAnswer}
-use Rattle.poll.specs.Steps.{lostUnder}
 use Rattle.poll.proofs.Handed.{lost-few, payload-size, handed-leaves}
 use borrow.Author.Needs.{needs}
 use Rattle.poll.proofs.hand_out.Statement.{statement}

@@ -2,10 +2,10 @@
 use mathlib.Core.Path.{refl, ap, _∙_}
 use Prim.Native.Nat.{_-_}
 use native.Mathlib.Omega.{arith}
-use Rattle.model.specs.Rules.{due}
+use Rattle.model.specs.Rules.{due, full}
 use Rattle.model.specs.Storage.{gapsOf}
 use Rattle.model.proofs.Laid.{length-gapsOf}
-use Rattle.packet_gaps.specs.Gaps.{gap, full, instantsFit}
+use Rattle.packet_gaps.specs.Gaps.{gap, instantsFit}
 use Rattle.packet_gaps.proofs.Laws.{noGap, due-as}
 use Rattle.packet_gaps.proofs.Turns.{every-at}
 use Rattle.packet_gaps.proofs.Writing.{none-at, Polling, polling-none, polling-here, polling-due, polling-skip, polling-count, polling-gaps, polling-out}
