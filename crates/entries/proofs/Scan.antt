@@ -23,7 +23,7 @@ use Rattle.model.specs.Valid.{fieldsSound, entrySound}
 use Rattle.model.specs.Storage.{ENTRY-WORDS, PAYLOAD-BYTES, arrivalWord, arrivalOf, bit, entryWords, payloadBytes, entryOf, entriesOf}
 use Rattle.model.proofs.Lists.{Each, none, more}
 use Rattle.model.proofs.Laid.{Fits, even-payloads, length-entriesOf}
-use Rattle.packet_gaps.proofs.Turns.{take-next, left, left-bad, left-last, left-unordered, left-more, left-end}
+use Rattle.packet_gaps.proofs.Turns.{take-next, Turn, left, left-end}
 use Rattle.entries.specs.declared.Entry as Row
 use Rattle.entries.specs.Entries.{entry, fits}
 use Rattle.entries.proofs.Laws.{noEntry, entry-numbers, each-fits, read-is, read-size, place-fits, place-is}
@@ -35,7 +35,7 @@ numberOf e = e .number
 
 -- check 16 from place i on
 abbrev pub entriesLeft : Bounds → List Gap → List ℕ → List ℕ → ℕ → ℕ → Bool
-entriesLeft b gaps words bytes n i = left numberOf (entrySound b gaps) noEntry (entriesOf words bytes n) i
+entriesLeft b gaps words bytes n i = left numberOf (entrySound b gaps) (entriesOf words bytes n) i
 
 module _ (words bytes : List ℕ) (n i : ℕ) (h : i < n) (r : Row.Entry)
     (e : (p : List ℕ) → entryOf (take ENTRY-WORDS (drop (ENTRY-WORDS * i) words)) p ≡ entry r (padded (r .size) (take (r .size) p)))
@@ -43,46 +43,23 @@ module _ (words bytes : List ℕ) (n i : ℕ) (h : i < n) (r : Row.Entry)
   es : List Entry
   es = entriesOf words bytes n
 
-  inside : i < length es
-  unfolding es
-  inside = rw length-entriesOf h
-
-  -- the test as the code makes it
-  abbrev rowSound : Bool
-  rowSound = fieldsSound b missing (r .number .0) (r .timestamp .0) (r .arrival) (r .size)
-
-  here : entrySound b gaps (getD es i noEntry) ≡ rowSound
-  unfolding es
-  here = ap (entrySound b gaps) (read-is words bytes n i h r e) ∙ rw (read-size words bytes n i h r e, em)
-
-  pub scan-bad : rowSound ≡ false → entriesLeft b gaps words bytes n i ≡ false
-  unfolding es
-  scan-bad f = left-bad numberOf (entrySound b gaps) noEntry es i inside (here ∙ f)
-
-  pub scan-last : rowSound ≡ true → n ≤ i + 1 → entriesLeft b gaps words bytes n i ≡ entriesLeft b gaps words bytes n (i + 1)
-  unfolding es
-  scan-last f l = left-last numberOf (entrySound b gaps) noEntry es i inside (here ∙ f) (omega (arith, length-entriesOf words bytes n))
-
-  -- the numbers at place i and at the next
-  number : r .number .0 ≡ getD (entryNumbers es) i 0
+  -- check 16 at place i
+  pub scanned : (passes : Bool) → passes ≡ fieldsSound b missing (r .number .0) (r .timestamp .0) (r .arrival) (r .size) → Turn numberOf (entrySound b gaps) noEntry (entriesOf words bytes n) n i (r .number .0) passes
   unfolding es entryOf
-  number = sym (List·getD-map numberOf es i noEntry ∙ ap numberOf (read-is words bytes n i h r e))
+  scanned passes p =
+      record {
+        count = length-entriesOf words bytes n;
+        inside = h;
+        here = sym (List·getD-map numberOf es i noEntry ∙ ap numberOf (read-is words bytes n i h r e));
+        tested = p ∙ sym (ap (entrySound b gaps) (read-is words bytes n i h r e) ∙ rw (read-size words bytes n i h r e, em));
+      }
 
-  next : i + 1 < n → getD words (ENTRY-WORDS * (i + 1)) 0 ≡ getD (entryNumbers es) (i + 1) 0
-  unfolding es
-  next k = sym (ap (λ (l : List ℕ). getD l (i + 1) 0) (entry-numbers words bytes n) ∙ first-at ENTRY-WORDS n words (i + 1) (omega arith) k)
-
-  module _ (k : i + 1 < n) where
-    pub scan-unordered : getD words (ENTRY-WORDS * (i + 1)) 0 ≤ r .number .0 → entriesLeft b gaps words bytes n i ≡ false
-    unfolding es
-    scan-unordered l = left-unordered numberOf (entrySound b gaps) noEntry es i inside (omega (arith, length-entriesOf words bytes n)) (r .number .0) (getD words (ENTRY-WORDS * (i + 1)) 0) number (next k) l
-
-    pub scan-more : rowSound ≡ true → r .number .0 < getD words (ENTRY-WORDS * (i + 1)) 0 → entriesLeft b gaps words bytes n i ≡ entriesLeft b gaps words bytes n (i + 1)
-    unfolding es
-    scan-more f l = left-more numberOf (entrySound b gaps) noEntry es i inside (omega (arith, length-entriesOf words bytes n)) (r .number .0) (getD words (ENTRY-WORDS * (i + 1)) 0) number (next k) (here ∙ f) l
+-- the number at a place
+pub number-word : (words bytes : List ℕ) (n i : ℕ) → i < n → getD words (ENTRY-WORDS * i) 0 ≡ getD (entryNumbers (entriesOf words bytes n)) i 0
+number-word words bytes n i h = sym (ap (λ (l : List ℕ). getD l i 0) (entry-numbers words bytes n) ∙ first-at ENTRY-WORDS n words i (omega arith) h)
 
 pub scan-end : (words bytes : List ℕ) (n i : ℕ) → n ≤ i → (b : Bounds) (gaps : List Gap) → entriesLeft b gaps words bytes n i ≡ true
-scan-end words bytes n i h b gaps = left-end numberOf (entrySound b gaps) noEntry (entriesOf words bytes n) i (omega (arith, length-entriesOf words bytes n))
+scan-end words bytes n i h b gaps = left-end numberOf (entrySound b gaps) (entriesOf words bytes n) i (omega (arith, length-entriesOf words bytes n))
 
 -- ---- `tidy_places`
 

@@ -20,7 +20,7 @@ use Rattle.model.specs.declared.LastReceived.the-variants as LastReceive
 use Rattle.model.specs.declared.Counters.{Counters}
 use Rattle.model.specs.declared.Queue.{Queue}
 use Rattle.model.specs.Lists.{keep, some?}
-use Rattle.model.specs.Records.{Entry, State, highestOf, lastTimestampOf, returnedOf, withClock, withLast, withReturned, withRtx, withCounters, withJitter, withLoss}
+use Rattle.model.specs.Records.{Entry, State, highestOf, lastTimestampOf, returnedOf, withClock, withLast, withReturned, withRtx, withCounters, withJitter, withLoss, Gap}
 use Rattle.model.specs.Rules.{extended, is, gapOf, without, gapsFrom, Place, first, near, far, fills, other, placeOf, waits, gapsAfter, onceOf, instantOf, sampledAt, isOf, forgetFirst}
 
 -- ---- what both share
@@ -58,10 +58,13 @@ insertSorted e (x ∷ xs) = cond (leb (e .number) (x .number)) (e ∷ x ∷ xs) 
 
 -- ---- a media packet
 
--- where the packet stands
+-- where the packet stands, with these gaps open
+unfoldable pub placeIn : Queue → List Gap → ℕ → Place
+placeIn q gaps n = cond (passed (q .config .settings .mode) (returnedOf (q .returned)) n) other (placeOf (highestOf (q .last)) gaps n)
+
 unfoldable pub mediaPlace : State → ℕ → Place
-mediaPlace s n =
-    cond (passed (s .queue .config .settings .mode) (returnedOf (s .queue .returned)) n) other (placeOf (highestOf (s .queue .last)) (s .gaps) n)
+unfolding placeIn
+mediaPlace s n = placeIn (s .queue) (s .gaps) n
 
 -- "made in `push` even for a packet then dropped"
 unfoldable pub jitterAfter : ℕ → ℕ → LastReceived → Jitter → Jitter
@@ -134,9 +137,12 @@ afterMedia now d s = let e = mediaEntry now d (s .queue) in afterPlaced now e (m
 pub data Fate : Type 0 where
   tooLate recovered redundant : Fate
 
+unfoldable pub fateIn : Queue → List Gap → ℕ → Fate
+fateIn q gaps n = cond (passed (q .config .settings .mode) (returnedOf (q .returned)) n) tooLate (cond (some? (is n) gaps) recovered redundant)
+
 unfoldable pub repairFate : State → ℕ → Fate
-repairFate s n =
-    cond (passed (s .queue .config .settings .mode) (returnedOf (s .queue .returned)) n) tooLate (cond (some? (is n) (s .gaps)) recovered redundant)
+unfolding fateIn
+repairFate s n = fateIn (s .queue) (s .gaps) n
 
 -- RFC 4588: the payload begins with the original number; what follows is the original payload
 unfoldable pub repairEntry : List ℕ → Queue → Entry

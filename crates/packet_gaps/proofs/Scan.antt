@@ -12,22 +12,22 @@ use Rattle.rtp.specs.declared.opt.Opt.the-variants.{None, Some}
 use Rattle.config.specs.declared.NackTimings.{NackTimings}
 use Rattle.model.specs.declared.Bounds.{Bounds}
 use Rattle.model.specs.Lists.{keep, leading, some?}
-use Rattle.model.specs.Records.{Gap}
+use Rattle.model.specs.Records.{Gap, gapNumbers}
 use Rattle.model.specs.Rules.{dueAt, due, full, tried}
 use Rattle.model.specs.Poll.{nackTimeout}
+use Rattle.model.specs.Valid.{gapSound}
 use Rattle.model.specs.Storage.{GAP-WORDS, gapOfWords, gapsOf}
 use Rattle.model.proofs.Laid.{length-gapsOf}
-use Rattle.model.specs.Valid.{gapSound}
 use Rattle.packet_gaps.specs.declared.check.Bounds.{Bounds}
 use Rattle.packet_gaps.proofs.Laws.{noGap, gap-numbers, number-at, read-is}
-use Rattle.packet_gaps.proofs.Turns.{drop-next, some-found, some-other, some-skip, keep-end, leading-none, leading-more, leading-end, left, left-bad, left-last, left-unordered, left-more, left-end}
+use Rattle.packet_gaps.proofs.Turns.{drop-next, some-found, some-other, some-skip, keep-end, leading-none, leading-more, leading-end, Turn, left, left-end}
 
 abbrev pub numberOf : Gap → ℕ
 numberOf g = g .number
 
 -- check 16 from place i on
 abbrev pub gapsLeft : Bounds → List ℕ → ℕ → ℕ → Bool
-gapsLeft b s n i = left numberOf (gapSound b) noGap (gapsOf s n) i
+gapsLeft b s n i = left numberOf (gapSound b) (gapsOf s n) i
 
 -- those that can be NACKed no more, from place i on
 abbrev pub fullFrom : NackTimings → ℕ → List ℕ → ℕ → ℕ → Bool
@@ -45,23 +45,10 @@ module _ (s : List ℕ) (n i : ℕ) (g : Gap) (e : g ≡ gapOfWords (take GAP-WO
   unfolding gs
   here = read-is s n i g e h
 
-  module _ (b : Bounds) where
-    pub scan-bad : gapSound b g ≡ false → gapsLeft b s n i ≡ false
-    unfolding gs
-    scan-bad f = left-bad numberOf (gapSound b) noGap gs i inside (ap (gapSound b) (sym here) ∙ f)
-
-    pub scan-last : gapSound b g ≡ true → n ≤ i + 1 → gapsLeft b s n i ≡ gapsLeft b s n (i + 1)
-    unfolding gs
-    scan-last f l = left-last numberOf (gapSound b) noGap gs i inside (ap (gapSound b) (sym here) ∙ f) (omega (arith, length-gapsOf s n))
-
-    module _ (k : i + 1 < n) where
-      pub scan-unordered : getD s (GAP-WORDS * (i + 1)) 0 ≤ g .number → gapsLeft b s n i ≡ false
-      unfolding gs gapOfWords
-      scan-unordered l = left-unordered numberOf (gapSound b) noGap gs i inside (omega (arith, length-gapsOf s n)) (g .number) (getD s (GAP-WORDS * (i + 1)) 0) (ap numberOf here ∙ sym (number-at gs i)) (sym (ap (λ (l : List ℕ). getD l (i + 1) 0) (gap-numbers s n) ∙ first-at GAP-WORDS n s (i + 1) (omega arith) k)) l
-
-      pub scan-more : gapSound b g ≡ true → g .number < getD s (GAP-WORDS * (i + 1)) 0 → gapsLeft b s n i ≡ gapsLeft b s n (i + 1)
-      unfolding gs gapOfWords
-      scan-more f l = left-more numberOf (gapSound b) noGap gs i inside (omega (arith, length-gapsOf s n)) (g .number) (getD s (GAP-WORDS * (i + 1)) 0) (ap numberOf here ∙ sym (number-at gs i)) (sym (ap (λ (l : List ℕ). getD l (i + 1) 0) (gap-numbers s n) ∙ first-at GAP-WORDS n s (i + 1) (omega arith) k)) (ap (gapSound b) (sym here) ∙ f) l
+  -- check 16 at place i
+  pub scanned : (b : Bounds) (passes : Bool) → passes ≡ gapSound b g → Turn numberOf (gapSound b) noGap (gapsOf s n) n i (g .number) passes
+  unfolding gs gapOfWords
+  scanned b passes p = record { count = length-gapsOf s n; inside = h; here = ap numberOf here ∙ sym (number-at gs i); tested = p ∙ ap (gapSound b) here }
 
   module _ (t : NackTimings) (now : ℕ) where
     pub full-found : due t now g ≡ true → full g ≡ true → fullFrom t now s n i ≡ true
@@ -94,10 +81,14 @@ module _ (s : List ℕ) (n i : ℕ) (g : Gap) (e : g ≡ gapOfWords (take GAP-WO
     unfolding gs
     tried-more a = leading-more noGap gs i inside (tried max) (ap (tried max) (sym here) ∙ a)
 
+-- the number at a place
+pub number-word : (s : List ℕ) (n i : ℕ) → i < n → getD s (GAP-WORDS * i) 0 ≡ getD (gapNumbers (gapsOf s n)) i 0
+number-word s n i h = sym (ap (λ (l : List ℕ). getD l i 0) (gap-numbers s n) ∙ first-at GAP-WORDS n s i (omega arith) h)
+
 -- past the last
 module _ (s : List ℕ) (n i : ℕ) (h : n ≤ i) where
   pub scan-end : (b : Bounds) → gapsLeft b s n i ≡ true
-  scan-end b = left-end numberOf (gapSound b) noGap (gapsOf s n) i (omega (arith, length-gapsOf s n))
+  scan-end b = left-end numberOf (gapSound b) (gapsOf s n) i (omega (arith, length-gapsOf s n))
 
   pub full-end : (t : NackTimings) (now : ℕ) → fullFrom t now s n i ≡ false
   full-end t now = keep-end (due t now) full (gapsOf s n) i (omega (arith, length-gapsOf s n))

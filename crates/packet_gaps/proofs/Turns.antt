@@ -79,37 +79,47 @@ and-none : (a : Bool) → (a && false) ≡ false
 and-none true = refl
 and-none false = refl
 
-module _ {A : Type 0} (number : A → ℕ) (test : A → Bool) (d : A) (xs : List A) where
-  -- what is left from place i on decides
-  unfoldable pub left : ℕ → Bool
-  left i = ascends (drop i (map number xs)) && every? test (drop i xs)
+-- what a loop over n places has read at place i: the number there, and whether the test passes
+pub record Turn {A : Type 0} (number : A → ℕ) (test : A → Bool) (d : A) (xs : List A) (n i x : ℕ) (passes : Bool) : Type 0 where
+  pub count : length xs ≡ n
+  pub inside : i < n
+  pub here : x ≡ getD (map number xs) i 0
+  pub tested : passes ≡ test (getD xs i d)
 
-  module _ (i : ℕ) (h : i < length xs) where
-    pub left-bad : test (getD xs i d) ≡ false → left i ≡ false
-    unfolding left every?
-    left-bad e = rw (drop-next d xs i h, e) (and-none (ascends (drop i (map number xs))))
+-- what is left from place i on decides
+unfoldable pub left : {A : Type 0} → (A → ℕ) → (A → Bool) → List A → ℕ → Bool
+left number test xs i = ascends (drop i (map number xs)) && every? test (drop i xs)
 
-    pub left-last : test (getD xs i d) ≡ true → length xs ≤ i + 1 → left i ≡ left (i + 1)
-    unfolding left every?
-    left-last e l =
-        let m = length-map xs number in
-        rw (drop-next d xs i h, e, ascends-end i (map number xs) (omega arith), ascends-end (i + 1) (map number xs) (omega arith))
+module _ {A : Type 0} {number : A → ℕ} {test : A → Bool} {d : A} {xs : List A} {n i x : ℕ} {passes : Bool} (t : Turn number test d xs n i x passes) where
+  next : drop i xs ≡ getD xs i d ∷ drop (i + 1) xs
+  next = drop-next d xs i (omega (arith, t .count, t .inside))
 
-    module _ (k : i + 1 < length xs) (x y : ℕ) (ex : x ≡ getD (map number xs) i 0) (ey : y ≡ getD (map number xs) (i + 1) 0) where
-      more : ascends (drop i (map number xs)) ≡ (ltb x y && ascends (drop (i + 1) (map number xs)))
-      more = let m = length-map xs number in ascends-more i (map number xs) (omega arith) ∙ rw (ex, ey)
-
-      pub left-unordered : y ≤ x → left i ≡ false
-      unfolding left
-      left-unordered e = rw (more, le-ltb x y e)
-
-      pub left-more : test (getD xs i d) ≡ true → x < y → left i ≡ left (i + 1)
-      unfolding left every?
-      left-more e l = rw (more, lt-ltb x y l, drop-next d xs i h, e)
-
-  pub left-end : (i : ℕ) → length xs ≤ i → left i ≡ true
+  pub left-bad : passes ≡ false → left number test xs i ≡ false
   unfolding left every?
-  left-end i h =
-      let e : drop i xs ≡ [] = drop-of-length-le xs {i = i} h in
+  left-bad e = rw (next, ← t .tested, e) (and-none (ascends (drop i (map number xs))))
+
+  pub left-last : passes ≡ true → n ≤ i + 1 → left number test xs i ≡ left number test xs (i + 1)
+  unfolding left every?
+  left-last e l =
       let m = length-map xs number in
-      rw (e, ascends-end i (map number xs) (omega arith))
+      let c = t .count in
+      rw (next, ← t .tested, e, ascends-end i (map number xs) (omega arith), ascends-end (i + 1) (map number xs) (omega arith))
+
+  module _ {y : ℕ} (k : i + 1 < n) (ey : y ≡ getD (map number xs) (i + 1) 0) where
+    more : ascends (drop i (map number xs)) ≡ (ltb x y && ascends (drop (i + 1) (map number xs)))
+    more = let m = length-map xs number in let c = t .count in ascends-more i (map number xs) (omega arith) ∙ rw (t .here, ey)
+
+    pub left-unordered : y ≤ x → left number test xs i ≡ false
+    unfolding left
+    left-unordered e = rw (more, le-ltb x y e)
+
+    pub left-more : passes ≡ true → x < y → left number test xs i ≡ left number test xs (i + 1)
+    unfolding left every?
+    left-more e l = rw (more, lt-ltb x y l, next, ← t .tested, e)
+
+pub left-end : {A : Type 0} (number : A → ℕ) (test : A → Bool) (xs : List A) (i : ℕ) → length xs ≤ i → left number test xs i ≡ true
+unfolding left every?
+left-end number test xs i h =
+    let e : drop i xs ≡ [] = drop-of-length-le xs {i = i} h in
+    let m = length-map xs number in
+    rw (e, ascends-end i (map number xs) (omega arith))

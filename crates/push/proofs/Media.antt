@@ -1,6 +1,6 @@
 -- A media packet that is accepted: what its checks and check 16 give the functions that queue it, and that they leave what `model` says.
 use mathlib.Core.Path.{_≡_, refl, sym, ap, subst, _∙_}
-use mathlib.Core.Bool.{Bool, true, false, cond, not}
+use mathlib.Core.Bool.{Bool, true, false, not}
 use mathlib.Core.List.{List, [], _∷_}
 use Prim.Native.Nat.{ℕ, suc, _+_, _*_, _-_, _≤_, _<_}
 use native.Mathlib.Omega.{arith}
@@ -77,13 +77,13 @@ deep d n = go (ltb d (suc n)) refl
     go false e = sym (lt-leb d n (omega (arith, ltb-false d (suc n) e)))
 
 module _ (s : Session) (e : Row.Entry) (p : Code.Place) where
-  pub packet-refusal-is : (r a b : ℕ) (w : Bool) → r ≡ orElse a b → w ≡ waits (place p) → a ≡ countRefusal (e .timestamp .0 ∷ e .number .0 ∷ mediaValues (s .queue .counters) (e .size) w (leb (s .queue .config .settings .«max_entries») (s .entries)))
+  pub packet-refusal-is : (r a b : ℕ) (w full : Bool) → r ≡ orElse a b → w ≡ waits (place p) → full ≡ leb (s .queue .config .settings .«max_entries») (s .entries) → a ≡ countRefusal (e .timestamp .0 ∷ e .number .0 ∷ mediaValues (s .queue .counters) (e .size) w full)
       → ((l : List Gap) → length l ≡ s .gaps → b ≡ refuseIf (tooManyGaps (s .queue .config .settings) l (e .number .0) (place p)) GAPS-FULL)
       → (instant : ℕ) (payload : List ℕ) (st : State) → Counts s st → length payload ≡ e .size → r ≡ packetRefusal instant (entry e payload) (place p) st
   unfolding packetRefusal overfull afterQueued heard
-  packet-refusal-is r a b w hr hw ha hb instant payload st k size =
+  packet-refusal-is r a b w full hr hw hf ha hb instant payload st k size =
       let n : length (insertSorted (entry e payload) (st .entries)) ≡ suc (s .entries) = length-insert (entry e payload) (st .entries) ∙ ap suc (k .entries) in
-      hr ∙ rw (ha, hw, hb (st .gaps) (k .gaps), k .queue, n, size, deep)
+      hr ∙ rw (ha, hw, hf, hb (st .gaps) (k .gaps), k .queue, n, size, deep)
 
 -- ---- an accepted packet
 

@@ -1,8 +1,9 @@
 // `push` (000): a media packet, from the datagram's bytes to its place in the storage.
 ghost use mathlib.Core.Path.{_≡_};
-ghost use mathlib.Core.Bool.{true, cond};
+ghost use mathlib.Core.Bool.{true};
 ghost use mathlib.Core.List.{List, []};
 ghost use Prim.Native.Nat.{ℕ, _+_, _*_, _-_, _≤_, _<_};
+ghost use lib.Dec.{leb};
 ghost use lib.ListN.{length};
 ghost use Rattle.words.specs.Blocks.{laid};
 ghost use Rattle.words.specs.Order.{ascends};
@@ -25,6 +26,7 @@ use model::LastReceived;
 use model::Queue;
 use model::Session;
 use rtp::ExtendedSequenceNumber;
+use rtp::SequenceNumber;
 use rtp::opt::Opt;
 use rtp_packet::Parsed;
 use rtp_packet::RtpPacket;
@@ -41,6 +43,16 @@ pub enum MediaAnswer {
 pub struct Pushed {
     pub answer: MediaAnswer,
     pub session: Session,
+}
+
+// A call that is turned back.
+fn refused(number: u64, session: Session) -> Pushed
+    ensures { λ r. ⌜ r ≡ record { answer = MediaAnswer.Refused number; session = session } ⌝ }
+{
+    Pushed {
+        answer: MediaAnswer::Refused(number),
+        session,
+    }
 }
 
 // 001's MAX_GAP_SIZE.
@@ -84,7 +96,7 @@ fn place_of(last: LastReceived, gaps: &[u64], n: usize, x: ExtendedSequenceNumbe
 fn media_place(q: Queue, gaps: &[u64], n: usize, x: ExtendedSequenceNumber) -> Place
     requires { ⌜ GAP-WORDS * n ≤ length (now gaps) ⌝ }
     requires { ⌜ ascends (Records.gapNumbers (gapsOf (now gaps) n)) ≡ true ⌝ }
-    ensures { λ r. ⌜ Spec.place r ≡ cond (Push.passed (q .config .settings .mode) (Records.returnedOf (q .returned)) (x .0)) Rules.other (Rules.placeOf (Records.highestOf (q .last)) (gapsOf (now (gaps .entry)) n) (x .0)) ⌝ }
+    ensures { λ r. ⌜ Spec.place r ≡ Push.placeIn q (gapsOf (now (gaps .entry)) n) (x .0) ⌝ }
 {
     if session::passed(q, x) {
         return Place::Other;
@@ -137,20 +149,35 @@ fn gaps_from(gaps: &mut [u64], n: usize, x: ExtendedSequenceNumber) -> usize
     n - k
 }
 
-// The entry that a packet becomes, without its payload.
-fn media_entry(q: Queue, instant: u64, p: RtpPacket, size: usize) -> Entry
-    ensures { λ r. ⌜ ((payload : List ℕ) → entry r payload ≡ Push.extendedEntry q (Opt.Some instant) (p .timestamp .0) (p .«sequence_number» .0) (p .marker) payload) ⌝ }
-    ensures { λ r. ⌜ (r .size ≡ size) × (r .arrival ≡ Opt.Some instant) ⌝ }
+// The entry that a packet becomes, without its payload; the number is the packet's own, or the original one of a repair.
+fn extended_entry(
+    q: Queue,
+    arrival: Opt,
+    p: RtpPacket,
+    number: SequenceNumber,
+    size: usize,
+) -> Entry
+    ensures { λ r. ⌜ ((payload : List ℕ) → entry r payload ≡ Push.extendedEntry q arrival (p .timestamp .0) (number .0) (p .marker) payload) ⌝ }
+    ensures { λ r. ⌜ (r .size ≡ size) × (r .arrival ≡ arrival) ⌝ }
 {
-    let number = session::extended_number(q, p.sequence_number);
+    let extended = session::extended_number(q, number);
     let timestamp = session::extended_timestamp(q, p.timestamp);
     Entry {
-        arrival: Opt::Some(instant),
+        arrival,
         timestamp,
-        number,
+        number: extended,
         marker: p.marker,
         size,
     }
+}
+
+// Whether one more entry would be beyond the depth.
+fn is_full(s: Session) -> bool
+    ensures { λ r. ⌜ r ≡ leb (s .queue .config .settings .«max_entries») (s .entries) ⌝ }
+{
+    let config = s.queue.config;
+    let settings = config.settings;
+    settings.max_entries <= s.entries
 }
 
 // 14, then 12, in a session that check 16 passes.
@@ -161,7 +188,7 @@ fn packet_refusal(s: Session, e: Entry, place: Place) -> u64
     let q = s.queue;
     let config = q.config;
     let settings = config.settings;
-    let full = settings.max_entries <= s.entries;
+    let full = is_full(s);
     let waits = session::push::waits(place);
     let counts = session::push::counts(
         q.counters,
@@ -247,13 +274,10 @@ fn queue_packet(
     payload: &[u8],
     place: Place,
 ) -> Session
-    requires { ⌜ Fit instant e (now payload) place (stored s (now entries) (now payloads) (now gaps) (now remembered)) ⌝ }
-    requires { ⌜ Rules.waits (Spec.place place) ≡ true ⌝ }
+    requires { ⌜ Fit instant e (now payload) place (stored s (now entries) (now payloads) (now gaps) (now remembered)) × (Rules.waits (Spec.place place) ≡ true) ⌝ }
     ensures { λ r. ⌜ stored r (now (entries .exit)) (now (payloads .exit)) (now (gaps .exit)) (now (remembered .entry)) ≡ write (Push.afterPlaced instant (entry e (now (payload .entry))) (Spec.place place) (parse (stored s (now (entries .entry)) (now (payloads .entry)) (now (gaps .entry)) (now (remembered .entry))))) ⌝ }
 {
-    let config = s.queue.config;
-    let settings = config.settings;
-    if settings.max_entries <= s.entries {
+    if is_full(s) {
         return push_out_packet(
             s,
             entries,
@@ -299,10 +323,8 @@ fn place_packet(
     if !session::push::waits(place) {
         let queue = session::push::dropped(s.queue, instant, e.timestamp);
         session.queue = queue;
-        return Pushed {
-            answer: MediaAnswer::Dropped,
-            session,
-        };
+        let answer = MediaAnswer::Dropped;
+        return Pushed { answer, session };
     }
     session = queue_packet(
         s,
@@ -315,10 +337,8 @@ fn place_packet(
         payload,
         place,
     );
-    Pushed {
-        answer: MediaAnswer::Queued,
-        session,
-    }
+    let answer = MediaAnswer::Queued;
+    Pushed { answer, session }
 }
 
 // A media packet that no check before 14 turns back.
@@ -337,14 +357,12 @@ fn push_packet(
     ensures { λ r. ⌜ didPacket instant (Push.extendedEntry (s .queue) (Opt.Some instant) (p .timestamp .0) (p .«sequence_number» .0) (p .marker) (now (payload .entry))) (stored s (now (entries .entry)) (now (payloads .entry)) (now (gaps .entry)) (now (remembered .entry))) ≡ record { answer = mediaAnswer (r .answer); stored = stored (r .session) (now (entries .exit)) (now (payloads .exit)) (now (gaps .exit)) (now (remembered .exit)); output = [] } ⌝ }
 {
     let q = s.queue;
-    let e = media_entry(q, instant, p, payload.len());
+    let arrival = Opt::Some(instant);
+    let e = extended_entry(q, arrival, p, p.sequence_number, payload.len());
     let place = media_place(q, gaps, s.gaps, e.number);
     let refusal = packet_refusal(s, e, place);
     if refusal != 0 {
-        return Pushed {
-            answer: MediaAnswer::Refused(refusal),
-            session: s,
-        };
+        return refused(refusal, s);
     }
     storage::settle(s, entries, payloads, gaps, remembered);
     place_packet(
@@ -374,19 +392,13 @@ pub fn push(
 {
     let refusal = storage::session_and_clock(session, entries, payloads, gaps, remembered, now);
     if refusal != 0 {
-        return Pushed {
-            answer: MediaAnswer::Refused(refusal),
-            session,
-        };
+        return refused(refusal, session);
     }
     let q = session.queue;
     let config = q.config;
     let senders = config.senders;
     match rtp_packet::parse_media(datagram, senders.pt, senders.ssrc) {
-        Parsed::Refused(number) => Pushed {
-            answer: MediaAnswer::Refused(number),
-            session,
-        },
+        Parsed::Refused(number) => refused(number, session),
         Parsed::Packet(p) => {
             let payload = rtp_packet::payload(datagram, p);
             push_packet(

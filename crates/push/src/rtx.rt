@@ -1,6 +1,6 @@
 // `push_rtx` (000): a repair (RFC 4588), from the datagram's bytes to the gap that it fills.
 ghost use mathlib.Core.Path.{_≡_};
-ghost use mathlib.Core.Bool.{true, cond};
+ghost use mathlib.Core.Bool.{true};
 ghost use mathlib.Core.List.{List, []};
 ghost use Prim.Native.Nat.{ℕ, _*_, _≤_, _<_};
 ghost use lib.ListN.{length};
@@ -8,9 +8,7 @@ ghost use Rattle.words.specs.Order.{ascends};
 ghost use Rattle.refusals.specs.Refusals.{ENTRIES-FULL};
 ghost use Rattle.durations.specs.Seconds.{largest};
 ghost use Rattle.rtp_packet.specs.Datagram.{LARGEST-PAYLOAD, LARGEST-REPAIR};
-ghost use Rattle.model.specs.Lists.{some?};
 ghost use Rattle.model.specs.Records as Records;
-ghost use Rattle.model.specs.Rules as Rules;
 ghost use Rattle.model.specs.Push as Push;
 ghost use Rattle.model.specs.Storage.{GAP-WORDS, gapsOf, parse, write};
 ghost use Rattle.model.specs.Calls.{repair, repaired};
@@ -45,11 +43,21 @@ pub struct PushedRtx {
     pub session: Session,
 }
 
+// A call that is turned back.
+fn refused(number: u64, session: Session) -> PushedRtx
+    ensures { λ r. ⌜ r ≡ record { answer = RepairAnswer.Refused number; session = session } ⌝ }
+{
+    PushedRtx {
+        answer: RepairAnswer::Refused(number),
+        session,
+    }
+}
+
 // What becomes of a repair of the number x.
 fn repair_fate(q: Queue, gaps: &[u64], n: usize, x: ExtendedSequenceNumber) -> Fate
     requires { ⌜ GAP-WORDS * n ≤ length (now gaps) ⌝ }
     requires { ⌜ ascends (Records.gapNumbers (gapsOf (now gaps) n)) ≡ true ⌝ }
-    ensures { λ r. ⌜ Spec.fate r ≡ cond (Push.passed (q .config .settings .mode) (Records.returnedOf (q .returned)) (x .0)) Push.tooLate (cond (some? (Rules.is (x .0)) (gapsOf (now (gaps .entry)) n)) Push.recovered Push.redundant) ⌝ }
+    ensures { λ r. ⌜ Spec.fate r ≡ Push.fateIn q (gapsOf (now (gaps .entry)) n) (x .0) ⌝ }
 {
     if session::passed(q, x) {
         return Fate::TooLate;
@@ -58,22 +66,6 @@ fn repair_fate(q: Queue, gaps: &[u64], n: usize, x: ExtendedSequenceNumber) -> F
         return Fate::Recovered;
     }
     Fate::Redundant
-}
-
-// The entry that a repair becomes, without its payload.
-fn original_entry(q: Queue, p: RtpPacket, number: SequenceNumber, size: usize) -> Entry
-    ensures { λ r. ⌜ ((payload : List ℕ) → entry r payload ≡ Push.extendedEntry q Opt.None (p .timestamp .0) (number .0) (p .marker) payload) ⌝ }
-    ensures { λ r. ⌜ (r .size ≡ size) × (r .arrival ≡ Opt.None) ⌝ }
-{
-    let extended = session::extended_number(q, number);
-    let timestamp = session::extended_timestamp(q, p.timestamp);
-    Entry {
-        arrival: Opt::None,
-        timestamp,
-        number: extended,
-        marker: p.marker,
-        size,
-    }
 }
 
 // 13
@@ -166,6 +158,16 @@ fn recover(
     }
 }
 
+fn answer_of(fate: Fate) -> RepairAnswer
+    ensures { λ r. ⌜ repairAnswer r ≡ repaired (Spec.fate fate) ⌝ }
+{
+    match fate {
+        Fate::TooLate => RepairAnswer::TooLate,
+        Fate::Recovered => RepairAnswer::Recovered,
+        Fate::Redundant => RepairAnswer::Redundant,
+    }
+}
+
 // A repair that is accepted.
 fn apply(
     s: Session,
@@ -177,37 +179,20 @@ fn apply(
     e: Entry,
     payload: &[u8],
     fate: Fate,
-) -> PushedRtx
+) -> Session
     requires { ⌜ FitRepair e (now payload) fate (stored s (now entries) (now payloads) (now gaps) (now remembered)) ⌝ }
-    ensures { λ r. ⌜ repairAnswer (r .answer) ≡ repaired (Spec.fate fate) ⌝ }
-    ensures { λ r. ⌜ stored (r .session) (now (entries .exit)) (now (payloads .exit)) (now (gaps .exit)) (now (remembered .exit)) ≡ write (Push.afterFate instant (entry e (now (payload .entry))) (Spec.fate fate) (parse (stored s (now (entries .entry)) (now (payloads .entry)) (now (gaps .entry)) (now (remembered .entry))))) ⌝ }
+    ensures { λ r. ⌜ stored r (now (entries .exit)) (now (payloads .exit)) (now (gaps .exit)) (now (remembered .exit)) ≡ write (Push.afterFate instant (entry e (now (payload .entry))) (Spec.fate fate) (parse (stored s (now (entries .entry)) (now (payloads .entry)) (now (gaps .entry)) (now (remembered .entry))))) ⌝ }
 {
     match fate {
-        Fate::TooLate => {
-            let session = too_late(s, entries, payloads, gaps, remembered, instant, e);
-            PushedRtx {
-                answer: RepairAnswer::TooLate,
-                session,
-            }
-        }
-        Fate::Recovered => {
-            let session = recover(s, entries, payloads, gaps, remembered, instant, e, payload);
-            PushedRtx {
-                answer: RepairAnswer::Recovered,
-                session,
-            }
-        }
+        Fate::TooLate => too_late(s, entries, payloads, gaps, remembered, instant, e),
+        Fate::Recovered => recover(s, entries, payloads, gaps, remembered, instant, e, payload),
         Fate::Redundant => {
             let queue = session::rtx::redundant(s.queue, instant);
-            let session = Session {
+            Session {
                 queue,
                 entries: s.entries,
                 gaps: s.gaps,
                 remembered: s.remembered,
-            };
-            PushedRtx {
-                answer: RepairAnswer::Redundant,
-                session,
             }
         }
     }
@@ -230,17 +215,15 @@ fn push_original(
     ensures { λ r. ⌜ didRepair instant (Push.extendedEntry (s .queue) Opt.None (p .timestamp .0) (number .0) (p .marker) (now (payload .entry))) (stored s (now (entries .entry)) (now (payloads .entry)) (now (gaps .entry)) (now (remembered .entry))) ≡ record { answer = repairAnswer (r .answer); stored = stored (r .session) (now (entries .exit)) (now (payloads .exit)) (now (gaps .exit)) (now (remembered .exit)); output = [] } ⌝ }
 {
     let q = s.queue;
-    let e = original_entry(q, p, number, payload.len());
+    let arrival = Opt::None;
+    let e = super::extended_entry(q, arrival, p, number, payload.len());
     let fate = repair_fate(q, gaps, s.gaps, e.number);
     let refusal = fate_refusal(s, e, fate);
     if refusal != 0 {
-        return PushedRtx {
-            answer: RepairAnswer::Refused(refusal),
-            session: s,
-        };
+        return refused(refusal, s);
     }
     storage::settle(s, entries, payloads, gaps, remembered);
-    apply(
+    let session = apply(
         s,
         entries,
         payloads,
@@ -250,7 +233,9 @@ fn push_original(
         e,
         payload,
         fate,
-    )
+    );
+    let answer = answer_of(fate);
+    PushedRtx { answer, session }
 }
 
 // A repair that no check before 10 turns back; its payload begins with the original number.
@@ -270,16 +255,10 @@ fn push_repair(
 {
     let refusal = session::check::media_first(s.queue);
     if refusal != 0 {
-        return PushedRtx {
-            answer: RepairAnswer::Refused(refusal),
-            session: s,
-        };
+        return refused(refusal, s);
     }
     match rtp_packet::original_number(payload) {
-        Original::Refused(k) => PushedRtx {
-            answer: RepairAnswer::Refused(k),
-            session: s,
-        },
+        Original::Refused(k) => refused(k, s),
         Original::Number(number) => {
             let rest = rtp_packet::original_payload(payload);
             push_original(
@@ -312,19 +291,13 @@ pub fn push_rtx(
     let damaged = storage::session_and_clock(session, entries, payloads, gaps, remembered, now);
     let refusal = refusals::or_else(damaged, session::check::rtx(session.queue));
     if refusal != 0 {
-        return PushedRtx {
-            answer: RepairAnswer::Refused(refusal),
-            session,
-        };
+        return refused(refusal, session);
     }
     let q = session.queue;
     let config = q.config;
     let senders = config.senders;
     match rtp_packet::parse_repair(datagram, senders.rtx_pt, senders.rtx_ssrc) {
-        Parsed::Refused(k) => PushedRtx {
-            answer: RepairAnswer::Refused(k),
-            session,
-        },
+        Parsed::Refused(k) => refused(k, session),
         Parsed::Packet(p) => {
             let payload = rtp_packet::payload(datagram, p);
             push_repair(

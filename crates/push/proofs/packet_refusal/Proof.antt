@@ -4,6 +4,9 @@ use borrow.Author.Needs.{needs}
 use Rattle.push.proofs.packet_refusal.Statement.{statement}
 use Rattle.push.proofs.packet_refusal.Tie as tie
 
+is-full-requires : tie.Need-is-full-requires
+is-full-requires c κs = search needs
+
 waits-requires : tie.Need-waits-requires
 waits-requires c κs = search needs
 
@@ -17,9 +20,9 @@ or-else-requires : tie.Need-or-else-requires
 or-else-requires c κs = search needs
 
 returns : tie.Need-returns
-returns c = let s = c .before .before .before .before .before .before .before .before .before in
-    packet-refusal-is (s .args .s) (s .args .e) (s .args .place) _ _ _ _ (c .or-else .ensures) (c .before .before .before .waits .ensures) (c .before .before .counts .ensures) (c .before .gaps .ensures)
+returns c = let s = c .before .before .before .before .before .before .before .before in
+    packet-refusal-is (s .args .s) (s .args .e) (s .args .place) _ _ _ _ _ (c .or-else .ensures) (c .before .before .before .waits .ensures) (c .before .before .before .before .is-full .ensures) (c .before .before .counts .ensures) (c .before .gaps .ensures)
 
 pub packet-refusal-spec : {M : Type 1} → statement M
 packet-refusal-spec =
-    tie.close (tie.spec waits-requires counts-requires gaps-requires or-else-requires returns)
+    tie.close (tie.spec is-full-requires waits-requires counts-requires gaps-requires or-else-requires returns)

@@ -18,6 +18,9 @@ use Rattle.push.proofs.push.Tie as tie
 session-and-clock-requires : tie.Need-session-and-clock-requires
 session-and-clock-requires c κs = search needs
 
+refused-requires : tie.Need-refused-requires
+refused-requires c κs = search needs
+
 same-length : tie.Need-same-length
 same-length c = search needs
 
@@ -32,14 +35,17 @@ same-length-4 c = search needs
 
 returns : tie.Need-returns
 unfolding mediaAnswer
-returns c = let s = c .before .before .before .before .before .before .before .before .before .before .before in
-    media-early (s .args .now) (s .args .datagram .now) (stored (s .args .session) (s .args .entries .now) (s .args .payloads .now) (s .args .gaps .now) (s .args .remembered .now)) _ (c .before .session-and-clock .ensures) (c .if1 .taken)
+returns c = let s = c .before .before .before .before .before .before .before .before .before .before .before .before in
+    rw (c .refused .ensures) (media-early (s .args .now) (s .args .datagram .now) (stored (s .args .session) (s .args .entries .now) (s .args .payloads .now) (s .args .gaps .now) (s .args .remembered .now)) _ (c .before .before .session-and-clock .ensures) (c .before .if1 .taken))
 
 parse-media-requires : tie.Need-parse-media-requires
 parse-media-requires c κs = search needs
 
 enum-known-number : tie.Need-enum-known-number
 enum-known-number c = search needs
+
+refused-requires-2 : tie.Need-refused-requires-2
+refused-requires-2 c κs = search needs
 
 enum-known-p : tie.Need-enum-known-p
 enum-known-p c = search needs
@@ -68,9 +74,9 @@ same-length-8 c = search needs
 
 returns-2 : tie.Need-returns-2
 unfolding mediaAnswer
-returns-2 c = let s = c .before .before .before .before .before .before .before .before .before .before .before .before .before .before .before .before .before .before in
-    let x = parsed-refused _ _ LARGEST-PAYLOAD _ (s .args .datagram .now) (sym (c .before .before .before .parse-media .ensures) ∙ c .before .number .given .1) in
-    media-unread (s .args .now) (s .args .datagram .now) (stored (s .args .session) (s .args .entries .now) (s .args .payloads .now) (s .args .gaps .now) (s .args .remembered .now)) _ (c .before .before .before .before .before .before .before .before .session-and-clock .ensures) (c .before .before .before .before .before .before .before .if1 .left) _ (x .0) (x .1)
+returns-2 c = let s = c .before .before .before .before .before .before .before .before .before .before .before .before .before .before .before .before .before .before .before in
+    let x = parsed-refused _ _ LARGEST-PAYLOAD _ (s .args .datagram .now) (sym (c .before .before .before .before .parse-media .ensures) ∙ c .before .before .number .given .1) in
+    rw (c .refused2 .ensures) (media-unread (s .args .now) (s .args .datagram .now) (stored (s .args .session) (s .args .entries .now) (s .args .payloads .now) (s .args .gaps .now) (s .args .remembered .now)) _ (c .before .before .before .before .before .before .before .before .before .session-and-clock .ensures) (c .before .before .before .before .before .before .before .before .if1 .left) _ (x .0) (x .1))
 
 same-length-9 : tie.Need-same-length-9
 same-length-9 c = search needs
@@ -94,6 +100,7 @@ push-spec =
     tie.close
     (tie.spec
     session-and-clock-requires
+    refused-requires
     same-length
     same-length-2
     same-length-3
@@ -101,6 +108,7 @@ push-spec =
     returns
     parse-media-requires
     enum-known-number
+    refused-requires-2
     enum-known-p
     payload-requires
     push-packet-requires

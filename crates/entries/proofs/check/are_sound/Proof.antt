@@ -4,8 +4,8 @@ use mathlib.Core.List.{List}
 use Prim.Native.Nat.{ℕ, _-_, _≤_}
 use borrow.Author.Tests.{not-true, not-false}
 use Rattle.model.specs.Storage.{gapsOf}
-use Rattle.packet_gaps.proofs.Turns.{left}
-use Rattle.entries.proofs.Scan.{entriesLeft, scan-bad, scan-last, scan-unordered, scan-more, scan-end}
+use Rattle.packet_gaps.proofs.Turns.{left, left-bad, left-last, left-unordered, left-more}
+use Rattle.entries.proofs.Scan.{entriesLeft, scanned, number-word, scan-end}
 use borrow.Author.Needs.{needs}
 use Rattle.entries.proofs.check.are_sound.Statement.{statement}
 use Rattle.entries.proofs.check.are_sound.Tie as tie
@@ -35,7 +35,7 @@ returns c = λ bytes.
     let l = c .before .before .before .before .before .loop in
     let r = c .before .before .before .read in
     let m = c .before .before .contains in
-    sym (l .inv .0 bytes ∙ scan-bad (s .args .words .now) bytes (s .args .n) (l .i) (c .before .before .before .before .loop-test .taken) (r .result) (r .ensures) (s .args .b) (gapsOf (s .args .gaps .now) (s .args .m)) (m .result) (m .ensures) (sym (c .before .entry-sound .ensures) ∙ not-true _ (c .if1 .taken)))
+    sym (l .inv .0 bytes ∙ left-bad (scanned (s .args .words .now) bytes (s .args .n) (l .i) (c .before .before .before .before .loop-test .taken) (r .result) (r .ensures) (s .args .b) (gapsOf (s .args .gaps .now) (s .args .m)) (m .result) (m .ensures) _ (c .before .entry-sound .ensures)) (not-true _ (c .if1 .taken)))
 
 add-next : tie.Need-add-next Inv-loop μ-loop
 add-next c = search needs
@@ -56,7 +56,7 @@ returns-2 c = λ bytes.
     let l = c .before .before .before .before .before .before .before .before .before .loop in
     let r = c .before .before .before .before .before .before .before .read in
     let m = c .before .before .before .before .before .before .contains in
-    sym (l .inv .0 bytes ∙ scan-unordered (s .args .words .now) bytes (s .args .n) (l .i) (c .before .before .before .before .before .before .before .before .loop-test .taken) (r .result) (r .ensures) (s .args .b) (gapsOf (s .args .gaps .now) (s .args .m)) (m .result) (m .ensures) (c .before .before .before .if2 .taken) (c .if3 .taken))
+    sym (l .inv .0 bytes ∙ left-unordered (scanned (s .args .words .now) bytes (s .args .n) (l .i) (c .before .before .before .before .before .before .before .before .loop-test .taken) (r .result) (r .ensures) (s .args .b) (gapsOf (s .args .gaps .now) (s .args .m)) (m .result) (m .ensures) _ (c .before .before .before .before .before .entry-sound .ensures)) (c .before .before .before .if2 .taken) (number-word (s .args .words .now) bytes (s .args .n) _ (c .before .before .before .if2 .taken)) (c .if3 .taken))
 
 loop-less : tie.Need-loop-less Inv-loop μ-loop
 loop-less c = search needs
@@ -66,7 +66,7 @@ loop-again c = let s = c .before .before .before .before .before .before .before
     let l = c .before .before .before .before .before .before .before .before .before .loop in
     let r = c .before .before .before .before .before .before .before .read in
     let m = c .before .before .before .before .before .before .contains in
-    (λ bytes. l .inv .0 bytes ∙ scan-more (s .args .words .now) bytes (s .args .n) (l .i) (c .before .before .before .before .before .before .before .before .loop-test .taken) (r .result) (r .ensures) (s .args .b) (gapsOf (s .args .gaps .now) (s .args .m)) (m .result) (m .ensures) (c .before .before .before .if2 .taken) (sym (c .before .before .before .before .before .entry-sound .ensures) ∙ not-false _ (c .before .before .before .before .if1 .left)) (c .if3 .left), search needs)
+    (λ bytes. l .inv .0 bytes ∙ left-more (scanned (s .args .words .now) bytes (s .args .n) (l .i) (c .before .before .before .before .before .before .before .before .loop-test .taken) (r .result) (r .ensures) (s .args .b) (gapsOf (s .args .gaps .now) (s .args .m)) (m .result) (m .ensures) _ (c .before .before .before .before .before .entry-sound .ensures)) (c .before .before .before .if2 .taken) (number-word (s .args .words .now) bytes (s .args .n) _ (c .before .before .before .if2 .taken)) (not-false _ (c .before .before .before .before .if1 .left)) (c .if3 .left), search needs)
 
 loop-less-2 : tie.Need-loop-less-2 Inv-loop μ-loop
 loop-less-2 c = search needs
@@ -76,7 +76,7 @@ loop-again-2 c = let s = c .before .before .before .before .before .before .befo
     let l = c .before .before .before .before .before .before .loop in
     let r = c .before .before .before .before .read in
     let m = c .before .before .before .contains in
-    (λ bytes. l .inv .0 bytes ∙ scan-last (s .args .words .now) bytes (s .args .n) (l .i) (c .before .before .before .before .before .loop-test .taken) (r .result) (r .ensures) (s .args .b) (gapsOf (s .args .gaps .now) (s .args .m)) (m .result) (m .ensures) (sym (c .before .before .entry-sound .ensures) ∙ not-false _ (c .before .if1 .left)) (c .if2 .left), search needs)
+    (λ bytes. l .inv .0 bytes ∙ left-last (scanned (s .args .words .now) bytes (s .args .n) (l .i) (c .before .before .before .before .before .loop-test .taken) (r .result) (r .ensures) (s .args .b) (gapsOf (s .args .gaps .now) (s .args .m)) (m .result) (m .ensures) _ (c .before .before .entry-sound .ensures)) (not-false _ (c .before .if1 .left)) (c .if2 .left), search needs)
 
 returns-3 : tie.Need-returns-3 Inv-loop μ-loop
 unfolding left

@@ -1,9 +1,7 @@
 -- `apply`, arm by arm.
 use Rattle.push.proofs.Repaired.{redundant-is}
-use Rattle.push.specs.Answers.{repairAnswer}
 use Rattle.model.specs.Contract.{stored}
 use Rattle.session.specs.Place.{fate}
-use mathlib.Core.Path.{refl}
 use borrow.Author.Needs.{needs}
 use Rattle.push.proofs.rtx.apply.Statement.{statement}
 use Rattle.push.proofs.rtx.apply.Tie as tie
@@ -39,8 +37,8 @@ same-length-4 : tie.Need-same-length-4
 same-length-4 c = search needs
 
 returns : tie.Need-returns
-unfolding fate repairAnswer
-returns c = let s = c .before .before .before .before .before .before .before .before .before .before .before .before .before .before in rw (c .before .before .before .before .before .before .before .enum-told .given .1) (refl, c .before .before .too-late .ensures (s .args .payload .now))
+unfolding fate
+returns c = let s = c .before .before .before .before .before .before .before .before .before .before .before .before .before .before in rw (c .before .before .before .before .before .before .before .enum-told .given .1) (c .before .before .too-late .ensures (s .args .payload .now))
 
 same-length-5 : tie.Need-same-length-5
 same-length-5 c = search needs
@@ -55,12 +53,12 @@ same-length-8 : tie.Need-same-length-8
 same-length-8 c = search needs
 
 returns-2 : tie.Need-returns-2
-unfolding fate repairAnswer
-returns-2 c = rw (c .before .before .before .before .before .before .before .before .before .before .before .enum-told2 .given .1) (refl, c .before .before .before .before .before .before .recover .ensures)
+unfolding fate
+returns-2 c = rw (c .before .before .before .before .before .before .before .before .before .before .before .enum-told2 .given .1) (c .before .before .before .before .before .before .recover .ensures)
 
 returns-3 : tie.Need-returns-3
-unfolding fate repairAnswer
-returns-3 c = let s = c .before .before .before .before .before .before .before .before in rw (c .before .enum-told3 .given .1) (refl, redundant-is (s .args .instant) (s .args .e) (stored (s .args .s) (s .args .entries .now) (s .args .payloads .now) (s .args .gaps .now) (s .args .remembered .now)) (s .pre .settled) _ (c .redundant .ensures) (s .args .payload .now))
+unfolding fate
+returns-3 c = let s = c .before .before .before .before .before .before .before .before in rw (c .before .enum-told3 .given .1) (redundant-is (s .args .instant) (s .args .e) (stored (s .args .s) (s .args .entries .now) (s .args .payloads .now) (s .args .gaps .now) (s .args .remembered .now)) (s .pre .settled) _ (c .redundant .ensures) (s .args .payload .now))
 
 pub apply-spec : {M : Type 1} → statement M
 apply-spec =

@@ -15,15 +15,21 @@ use Rattle.push.proofs.rtx.push_repair.Tie as tie
 media-first-requires : tie.Need-media-first-requires
 media-first-requires c κs = search needs
 
+refused-requires : tie.Need-refused-requires
+refused-requires c κs = search needs
+
 returns : tie.Need-returns
 unfolding repairAnswer
-returns c = let s = c .before .before .before .before .before .before .before in original-early (s .args .instant) (s .args .p) (s .args .payload .now) (stored (s .args .s) (s .args .entries .now) (s .args .payloads .now) (s .args .gaps .now) (s .args .remembered .now)) _ (c .before .media-first .ensures) (c .if1 .taken)
+returns c = let s = c .before .before .before .before .before .before .before .before in rw (c .refused .ensures) (original-early (s .args .instant) (s .args .p) (s .args .payload .now) (stored (s .args .s) (s .args .entries .now) (s .args .payloads .now) (s .args .gaps .now) (s .args .remembered .now)) _ (c .before .before .media-first .ensures) (c .before .if1 .taken))
 
 original-number-requires : tie.Need-original-number-requires
 original-number-requires c κs = search needs
 
 enum-known-k : tie.Need-enum-known-k
 enum-known-k c = search needs
+
+refused-requires-2 : tie.Need-refused-requires-2
+refused-requires-2 c κs = search needs
 
 enum-known-number : tie.Need-enum-known-number
 enum-known-number c = search needs
@@ -37,9 +43,9 @@ push-original-requires c κs = let s = c .before .before .before .before .before
 
 returns-2 : tie.Need-returns-2
 unfolding repairAnswer
-returns-2 c = let s = c .before .before .before .before .before .before .before .before .before .before .before in
-    let x = original-refused (s .args .payload .now) _ (sym (c .before .before .before .original-number .ensures) ∙ c .before .k .given .1) in
-    original-refused-is (s .args .instant) (s .args .p) (s .args .payload .now) (stored (s .args .s) (s .args .entries .now) (s .args .payloads .now) (s .args .gaps .now) (s .args .remembered .now)) (sym (c .before .before .before .before .before .media-first .ensures) ∙ c .before .before .before .before .if1 .left) _ (x .0) (x .1)
+returns-2 c = let s = c .before .before .before .before .before .before .before .before .before .before .before .before in
+    let x = original-refused (s .args .payload .now) _ (sym (c .before .before .before .before .original-number .ensures) ∙ c .before .before .k .given .1) in
+    rw (c .refused2 .ensures) (original-refused-is (s .args .instant) (s .args .p) (s .args .payload .now) (stored (s .args .s) (s .args .entries .now) (s .args .payloads .now) (s .args .gaps .now) (s .args .remembered .now)) (sym (c .before .before .before .before .before .before .media-first .ensures) ∙ c .before .before .before .before .before .if1 .left) _ (x .0) (x .1))
 
 same-length : tie.Need-same-length
 same-length c = search needs
@@ -63,9 +69,11 @@ push-repair-spec =
     tie.close
     (tie.spec
     media-first-requires
+    refused-requires
     returns
     original-number-requires
     enum-known-k
+    refused-requires-2
     enum-known-number
     original-payload-requires
     push-original-requires

@@ -25,6 +25,9 @@ rtx-requires c κs = search needs
 or-else-requires : tie.Need-or-else-requires
 or-else-requires c κs = search needs
 
+refused-requires : tie.Need-refused-requires
+refused-requires c κs = search needs
+
 same-length : tie.Need-same-length
 same-length c = search needs
 
@@ -39,14 +42,17 @@ same-length-4 c = search needs
 
 returns : tie.Need-returns
 unfolding repairAnswer
-returns c = let s = c .before .before .before .before .before .before .before .before .before .before .before .before .before in
-    repair-early (s .args .now) (s .args .datagram .now) (stored (s .args .session) (s .args .entries .now) (s .args .payloads .now) (s .args .gaps .now) (s .args .remembered .now)) _ _ (c .before .before .before .session-and-clock .ensures) (c .before .or-else .ensures ∙ ap (orElse _) (c .before .before .rtx .ensures)) (c .if1 .taken)
+returns c = let s = c .before .before .before .before .before .before .before .before .before .before .before .before .before .before in
+    rw (c .refused .ensures) (repair-early (s .args .now) (s .args .datagram .now) (stored (s .args .session) (s .args .entries .now) (s .args .payloads .now) (s .args .gaps .now) (s .args .remembered .now)) _ _ (c .before .before .before .before .session-and-clock .ensures) (c .before .before .or-else .ensures ∙ ap (orElse _) (c .before .before .before .rtx .ensures)) (c .before .if1 .taken))
 
 parse-repair-requires : tie.Need-parse-repair-requires
 parse-repair-requires c κs = search needs
 
 enum-known-k : tie.Need-enum-known-k
 enum-known-k c = search needs
+
+refused-requires-2 : tie.Need-refused-requires-2
+refused-requires-2 c κs = search needs
 
 enum-known-p : tie.Need-enum-known-p
 enum-known-p c = search needs
@@ -76,9 +82,9 @@ same-length-8 c = search needs
 
 returns-2 : tie.Need-returns-2
 unfolding repairAnswer
-returns-2 c = let s = c .before .before .before .before .before .before .before .before .before .before .before .before .before .before .before .before .before .before .before .before in
-    let x = parsed-refused _ _ LARGEST-REPAIR _ (s .args .datagram .now) (sym (c .before .before .before .parse-repair .ensures) ∙ c .before .k .given .1) in
-    repair-unread (s .args .now) (s .args .datagram .now) (stored (s .args .session) (s .args .entries .now) (s .args .payloads .now) (s .args .gaps .now) (s .args .remembered .now)) _ _ (c .before .before .before .before .before .before .before .before .before .before .session-and-clock .ensures) (c .before .before .before .before .before .before .before .before .or-else .ensures ∙ ap (orElse _) (c .before .before .before .before .before .before .before .before .before .rtx .ensures)) (c .before .before .before .before .before .before .before .if1 .left) _ (x .0) (x .1)
+returns-2 c = let s = c .before .before .before .before .before .before .before .before .before .before .before .before .before .before .before .before .before .before .before .before .before in
+    let x = parsed-refused _ _ LARGEST-REPAIR _ (s .args .datagram .now) (sym (c .before .before .before .before .parse-repair .ensures) ∙ c .before .before .k .given .1) in
+    rw (c .refused2 .ensures) (repair-unread (s .args .now) (s .args .datagram .now) (stored (s .args .session) (s .args .entries .now) (s .args .payloads .now) (s .args .gaps .now) (s .args .remembered .now)) _ _ (c .before .before .before .before .before .before .before .before .before .before .before .session-and-clock .ensures) (c .before .before .before .before .before .before .before .before .before .or-else .ensures ∙ ap (orElse _) (c .before .before .before .before .before .before .before .before .before .before .rtx .ensures)) (c .before .before .before .before .before .before .before .before .if1 .left) _ (x .0) (x .1))
 
 same-length-9 : tie.Need-same-length-9
 same-length-9 c = search needs
@@ -104,6 +110,7 @@ push-rtx-spec =
     session-and-clock-requires
     rtx-requires
     or-else-requires
+    refused-requires
     same-length
     same-length-2
     same-length-3
@@ -111,6 +118,7 @@ push-rtx-spec =
     returns
     parse-repair-requires
     enum-known-k
+    refused-requires-2
     enum-known-p
     payload-requires
     push-repair-requires
