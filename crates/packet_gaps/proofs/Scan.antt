@@ -18,7 +18,6 @@ use Rattle.model.specs.Poll.{nackTimeout}
 use Rattle.model.specs.Valid.{gapSound}
 use Rattle.model.specs.Storage.{GAP-WORDS, gapOfWords, gapsOf}
 use Rattle.model.proofs.Laid.{length-gapsOf}
-use Rattle.packet_gaps.specs.declared.check.Bounds.{Bounds}
 use Rattle.packet_gaps.proofs.Laws.{noGap, gap-numbers, number-at, read-is}
 use Rattle.packet_gaps.proofs.Turns.{drop-next, some-found, some-other, some-skip, keep-end, leading-none, leading-more, leading-end, Turn, left, left-end}
 
