@@ -2,7 +2,7 @@
 use mathlib.Core.Path.{_≡_, refl}
 use mathlib.Core.List.{List, [], _∷_, _++_}
 use Prim.Native.Nat.{ℕ}
-use Rattle.trace.specs.Text.{Output, put}
+use Rattle.put.specs.Text.{Output, put}
 use Rattle.answers.specs.Lines.{putAll}
 
 pub put-append : (a b : List (List ℕ)) (o : Output) → putAll (a ++ b) o ≡ putAll b (putAll a o)

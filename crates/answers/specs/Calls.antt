@@ -19,7 +19,7 @@ use Rattle.rtp.specs.declared.opt.Opt.{Opt}
 use Rattle.rtp.specs.declared.opt.Opt.the-variants as Opt
 use Rattle.stats.specs.declared.OptRtxStats.{OptRtxStats}
 use Rattle.stats.specs.declared.OptRtxStats.the-variants as OptRtxStats
-use Rattle.trace.specs.Text.{ascii, field, decimal, optDecimal, hex}
+use Rattle.put.specs.Text.{ascii, field, decimal, optDecimal, hex}
 use Rattle.answers.specs.Lines.{line, numberLine, lineFeed, flagText}
 
 -- "A refused call is answered `refused N`"

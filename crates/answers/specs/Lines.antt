@@ -2,7 +2,7 @@
 use mathlib.Core.Bool.{Bool, true, false}
 use mathlib.Core.List.{List, [], _∷_}
 use Prim.Native.Nat.{ℕ}
-use Rattle.trace.specs.Text.{Output, put, ascii, field, decimal}
+use Rattle.put.specs.Text.{Output, put, ascii, field, decimal}
 
 -- the parts of a line, each put behind the one before it
 unfoldable pub putAll : List (List ℕ) → Output → Output

@@ -16,7 +16,7 @@ use Rattle.packet_gaps.specs.declared.Gap.{Gap}
 use Rattle.rtx_state.specs.declared.OptRtt.{OptRtt}
 use Rattle.rtx_state.specs.declared.OptRtt.the-variants as OptRtt
 use Rattle.rtx_state.specs.declared.RtxState.{RtxState}
-use Rattle.trace.specs.Text.{ascii, field, decimal, hexDigits, optDecimal, hex}
+use Rattle.put.specs.Text.{ascii, field, decimal, hexDigits, optDecimal, hex}
 use Rattle.rtp.specs.declared.opt.Opt.{Opt}
 use Rattle.rtp.specs.declared.opt.Opt.the-variants as Opt
 use Rattle.answers.specs.Lines.{lineFeed, flagText}

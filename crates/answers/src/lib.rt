@@ -1,7 +1,7 @@
 // The answers of docs/TRACE.md as lines of text, put into a lent buffer from a place on; each function answers the place behind its line.
 ghost use mathlib.Core.Path.{_≡_};
 ghost use lib.ListN.{take};
-ghost use Rattle.trace.specs.Text.{output, put, field, hex};
+ghost use Rattle.put.specs.Text.{output, put, field, hex};
 ghost use Rattle.stats.specs.declared.OptRtxStats.the-variants as OptRtxStats;
 ghost use Rattle.answers.specs.Lines.{putAll, lineFeed, flagText};
 ghost use Rattle.answers.specs.Lines.{line as theLine, numberLine};
@@ -16,7 +16,6 @@ use queue::TimeoutAnswer;
 use rtp::opt::Opt;
 use stats::OptRtxStats;
 use stats::RtpInboundRtxStats;
-use trace::put;
 
 pub mod state;
 

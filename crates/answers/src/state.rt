@@ -1,6 +1,6 @@
 // The lines of `state`: the session in one, and one for each record of its lists.
 ghost use mathlib.Core.Path.{_≡_};
-ghost use Rattle.trace.specs.Text.{output, put};
+ghost use Rattle.put.specs.Text.{output, put};
 ghost use Rattle.answers.specs.Lines.{putAll};
 ghost use Rattle.answers.specs.State.{bits64Text, bits32Text, queueFields, receivedFields, returnedField, rttFields, rtxFields, countFields, stateLine};
 ghost use Rattle.answers.specs.State.{entryLine, nackedOf, gapLine, rememberedLine};
@@ -13,7 +13,6 @@ use packet_gaps::Gap;
 use rtp::opt::Opt;
 use rtx_state::OptRtt;
 use rtx_state::RtxState;
-use trace::put;
 
 fn f64_bits(out: &mut [u8], at: usize, x: f64) -> usize
     ensures { λ r. ⌜ output (now (out .exit)) r ≡ put (bits64Text x) (output (now (out .entry)) at) ⌝ }

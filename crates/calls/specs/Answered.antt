@@ -5,7 +5,7 @@ use Prim.Native.Nat.{ℕ}
 use Rattle.model.specs.Storage.{Stored}
 use Rattle.model.specs.Calls.{Answer, Call}
 use Rattle.model.specs.Contract.{Does}
-use Rattle.trace.specs.Text.{Output}
+use Rattle.put.specs.Text.{Output}
 use Rattle.answers.specs.Lines.{putAll}
 
 -- The queue's call on `before` gave an answer and left `after`, and that answer's line stands behind what the output had. The queue's

@@ -4,7 +4,7 @@ ghost use Rattle.model.specs.Calls as Calls;
 ghost use Rattle.model.specs.Contract.{stored};
 ghost use Rattle.push.specs.Answers.{mediaAnswer, repairAnswer};
 ghost use Rattle.poll.specs.Answers.{pollAnswer};
-ghost use Rattle.trace.specs.Text.{output};
+ghost use Rattle.put.specs.Text.{output};
 ghost use Rattle.answers.specs.Calls.{mediaLine, repairLine, pollLine};
 ghost use Rattle.calls.specs.Answered.{Answered, alone};
 use model::Session;

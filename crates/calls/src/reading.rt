@@ -2,7 +2,7 @@
 ghost use Rattle.model.specs.Calls as Calls;
 ghost use Rattle.model.specs.Contract.{stored};
 ghost use Rattle.queue.specs.Answers.{timeoutAnswer, statsAnswer, highestAnswer};
-ghost use Rattle.trace.specs.Text.{output};
+ghost use Rattle.put.specs.Text.{output};
 ghost use Rattle.answers.specs.Calls.{timeoutLine, statsLine, highestLine};
 ghost use Rattle.calls.specs.Answered.{Answered, alone};
 use model::Session;

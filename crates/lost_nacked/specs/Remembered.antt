@@ -17,4 +17,3 @@ pub record RememberedIn (words : List ℕ) (n : ℕ) : Type 0 where
 -- of another number than x
 abbrev pub apart : ℕ → Remembered → Bool
 apart x r = not (isOf x r)
-

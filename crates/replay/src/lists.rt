@@ -2,7 +2,6 @@
 use crate::output;
 use model::Session;
 use poll::nack::NackAnswer;
-use trace::put;
 
 fn wide(x: u16) -> u64 {
     x as u64

@@ -17,4 +17,3 @@ unfoldable pub fate : Fate → Push.Fate
 fate Fate.TooLate = Push.tooLate
 fate Fate.Recovered = Push.recovered
 fate Fate.Redundant = Push.redundant
-

@@ -1,10 +1,8 @@
 -- What the proofs of several functions use.
 pub mod Datagrams
-pub mod Decimal
 pub mod Digits
 pub mod Fields
 pub mod Hex
 pub mod Nibbles
 pub mod Numbers
-pub mod Outputs
 pub mod Tests

@@ -1,4 +1,3 @@
 -- What the contracts of `trace` cite.
 pub mod Field
 pub mod Line
-pub mod Text

@@ -19,7 +19,7 @@ use Rattle.trace.specs.declared.Timed.the-variants as Timed
 use Rattle.trace.specs.declared.Word.{Word}
 use Rattle.trace.specs.declared.Word.the-variants as Word
 use Rattle.trace.specs.Field.{numberOf, numbersOf, hexIn}
-use Rattle.trace.specs.Text.{ascii}
+use Rattle.put.specs.Text.{ascii}
 
 -- ---- words and fields
 

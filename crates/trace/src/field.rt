@@ -84,7 +84,8 @@ pub fn number(s: &[u8]) -> Opt
     digits(s)
 }
 
-// Whether the rest of a line, from the blank before its first field, is as many numbers as there are places: they are put there.
+// Whether the rest of a line, from the blank before its first field, is as many numbers as there are places: they are put there. Where it
+// is not, what the places hold is left open: such a line is unreadable.
 pub fn are_numbers(rest: &[u8], values: &mut [u64]) -> bool
     ensures { λ r. ⌜ cond r (some (now (values .exit))) none ≡ numbersOf (length (now (values .entry))) (after (now (rest .entry))) ⌝ }
 {

@@ -1,4 +1,4 @@
-// The trace format (docs/TRACE.md): a line's bytes to a call, and the parts of an answer to bytes. No input and no output is done here.
+// The trace format (docs/TRACE.md): a line's bytes to a call. No input and no output is done here.
 ghost use mathlib.Core.Path.{_≡_};
 ghost use mathlib.Core.Option.{some};
 ghost use lib.ListN.{length};
@@ -10,7 +10,6 @@ use field::OptSize;
 use rtp::opt::Opt;
 
 mod field;
-pub mod put;
 
 // The longest line that is read, in bytes.
 const MOST: usize = 4095;

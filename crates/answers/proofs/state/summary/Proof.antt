@@ -1,7 +1,7 @@
 -- `summary` meets its contract: its parts are put one behind the other.
 use Rattle.answers.proofs.Parts.{put-append}
 use mathlib.Core.Path.{ap, _∙_}
-use Rattle.trace.specs.Text.{put}
+use Rattle.put.specs.Text.{put}
 use Rattle.answers.specs.Lines.{putAll, lineFeed}
 use Rattle.answers.specs.State.{queueFields, receivedFields, returnedField, rtxFields, countFields, stateLine}
 use borrow.Author.Needs.{needs}

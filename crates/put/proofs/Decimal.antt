@@ -9,7 +9,7 @@ use borrow.Author.Tests.{lt-ltb, le-ltb, leb-true, leb-false}
 use lib.Dec.{leb}
 use lib.ListN.{length, take, getD}
 use Rattle.io.specs.Digits.{glyph, digits, Fewest}
-use Rattle.trace.specs.Text.{decimalUpTo, decimal, hexDigits, pairs, hex, ascii}
+use Rattle.put.specs.Text.{decimalUpTo, decimal, hexDigits, pairs, hex, ascii}
 
 spelled : (most k n : ℕ) → k ≤ most → Fewest 10 1 n k → decimalUpTo most n ≡ digits 10 k n
 unfolding decimalUpTo

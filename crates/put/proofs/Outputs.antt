@@ -11,7 +11,7 @@ use lib.Seq.{take-length, take-set-lt, take-suc-set, set-append-left, drop-drop,
 use Rattle.words.specs.Words.{over, written}
 use Rattle.words.proofs.Over.{over-is}
 use Rattle.words.proofs.Moves.{written-is, part-written}
-use Rattle.trace.specs.Text.{output, put, field}
+use Rattle.put.specs.Text.{output, put, field}
 
 module _ (out : List ℕ) (at : ℕ) (s : List ℕ) where
   pub left-out : length out < at + length s → output out at ≡ put s (output out at)

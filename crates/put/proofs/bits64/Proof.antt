@@ -1,12 +1,9 @@
--- `bits32` meets its contract: eight digits hold 32 bits.
-use Rattle.trace.proofs.Decimal.{hex-spelled}
+-- `bits64` meets its contract: sixteen digits hold 64 bits.
+use Rattle.put.proofs.Decimal.{hex-spelled}
 use borrow.Author.Needs.{needs}
 use native.Mathlib.Omega.{arith}
-use Rattle.trace.proofs.put.bits32.Statement.{statement}
-use Rattle.trace.proofs.put.bits32.Tie as tie
-
-wide-requires : tie.Need-wide-requires
-wide-requires c κs = search needs
+use Rattle.put.proofs.bits64.Statement.{statement}
+use Rattle.put.proofs.bits64.Tie as tie
 
 hex-requires : tie.Need-hex-requires
 hex-requires c κs = search needs
@@ -26,13 +23,12 @@ same-length c = search needs
 returns : tie.Need-returns
 returns c =
     let d = c .before .before .before .before .before .hex in
-    cc (hex-spelled _ _ 8 _ (omega arith) (d .ensures .1 .0) (d .ensures .1 .1))
+    cc (hex-spelled _ _ 16 _ (omega arith) (d .ensures .1 .0) (d .ensures .1 .1))
 
-pub bits32-spec : {M : Type 1} → statement M
-bits32-spec =
+pub bits64-spec : {M : Type 1} → statement M
+bits64-spec =
     tie.close
     (tie.spec
-    wide-requires
     hex-requires
     array-share-prefix-digits
     slice-aggregate-field

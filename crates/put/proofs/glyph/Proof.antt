@@ -2,8 +2,8 @@
 use borrow.Author.Needs.{needs}
 use borrow.Author.Tests.{lt-ltb, le-ltb}
 use native.Mathlib.Omega.{arith}
-use Rattle.trace.proofs.put.glyph.Statement.{statement}
-use Rattle.trace.proofs.put.glyph.Tie as tie
+use Rattle.put.proofs.glyph.Statement.{statement}
+use Rattle.put.proofs.glyph.Tie as tie
 
 add-result : tie.Need-add-result
 add-result c = search needs

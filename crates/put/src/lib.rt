@@ -5,7 +5,7 @@ ghost use Prim.Native.Nat.{_*_, _≤_, _<_};
 ghost use lib.ListN.{length};
 ghost use Rattle.words.specs.Words.{over};
 ghost use Rattle.io.specs.Digits.{glyph as Digits·glyph};
-ghost use Rattle.trace.specs.Text.{output, put, field as asField, decimal, optDecimal, hexDigits, pairs, hex};
+ghost use Rattle.put.specs.Text.{output, put, field as asField, decimal, optDecimal, hexDigits, pairs, hex};
 use rtp::opt::Opt;
 
 pub fn text(out: &mut [u8], at: usize, s: &[u8]) -> usize

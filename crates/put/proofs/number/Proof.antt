@@ -1,12 +1,12 @@
--- `bits64` meets its contract: sixteen digits hold 64 bits.
-use Rattle.trace.proofs.Decimal.{hex-spelled}
+-- `number` meets its contract: the digits are the fewest that hold it.
+use Rattle.put.proofs.Decimal.{spelled-out}
 use borrow.Author.Needs.{needs}
 use native.Mathlib.Omega.{arith}
-use Rattle.trace.proofs.put.bits64.Statement.{statement}
-use Rattle.trace.proofs.put.bits64.Tie as tie
+use Rattle.put.proofs.number.Statement.{statement}
+use Rattle.put.proofs.number.Tie as tie
 
-hex-requires : tie.Need-hex-requires
-hex-requires c κs = search needs
+decimal-requires : tie.Need-decimal-requires
+decimal-requires c κs = search needs
 
 array-share-prefix-digits : tie.Need-array-share-prefix-digits
 array-share-prefix-digits c = search needs
@@ -22,14 +22,14 @@ same-length c = search needs
 
 returns : tie.Need-returns
 returns c =
-    let d = c .before .before .before .before .before .hex in
-    cc (hex-spelled _ _ 16 _ (omega arith) (d .ensures .1 .0) (d .ensures .1 .1))
+    let d = c .before .before .before .before .before .decimal in
+    cc (spelled-out _ _ _ (omega arith) (d .ensures .1 .0) (d .ensures .1 .1))
 
-pub bits64-spec : {M : Type 1} → statement M
-bits64-spec =
+pub number-spec : {M : Type 1} → statement M
+number-spec =
     tie.close
     (tie.spec
-    hex-requires
+    decimal-requires
     array-share-prefix-digits
     slice-aggregate-field
     field-requires

@@ -1,14 +1,14 @@
 -- `octets` meets its contract: the blank is stored before the digits made behind it.
 use Prim.Native.Nat.{_+_, _*_, _≤_}
-use Rattle.trace.proofs.Decimal.{length-pairs, hex-none, hex-pairs}
-use Rattle.trace.proofs.Outputs.{left-out, field-in, part-put}
-use Rattle.trace.specs.Text.{field, hex, pairs}
+use Rattle.put.proofs.Decimal.{length-pairs, hex-none, hex-pairs}
+use Rattle.put.proofs.Outputs.{left-out, field-in, part-put}
+use Rattle.put.specs.Text.{field, hex, pairs}
 use borrow.Author.Needs.{needs}
 use lib.ListN.{length}
 use mathlib.Core.Path.{_≡_}
 use native.Mathlib.Omega.{arith}
-use Rattle.trace.proofs.put.octets.Statement.{statement}
-use Rattle.trace.proofs.put.octets.Tie as tie
+use Rattle.put.proofs.octets.Statement.{statement}
+use Rattle.put.proofs.octets.Tie as tie
 
 slice-aggregate-field : tie.Need-slice-aggregate-field
 slice-aggregate-field c = search needs

@@ -1,7 +1,7 @@
 -- `encode` meets its contract: the digits of byte i stand at 2 · i and behind it.
 use Prim.Native.Nat.{ℕ, _+_, _*_, _-_}
-use Rattle.trace.proofs.Decimal.{length-pairs, pair-high, pair-low}
-use Rattle.trace.specs.Text.{pairs}
+use Rattle.put.proofs.Decimal.{length-pairs, pair-high, pair-low}
+use Rattle.put.specs.Text.{pairs}
 use Rattle.words.proofs.Loops.{Writing, writing-none, writing-more, writing-all}
 use Rattle.words.specs.Words.{over}
 use borrow.Author.Needs.{needs}
@@ -10,8 +10,8 @@ use lib.Seq.{take-all}
 use mathlib.Core.List.{List}
 use mathlib.Core.Path.{_≡_, ap, _∙_}
 use native.Mathlib.Omega.{arith}
-use Rattle.trace.proofs.put.encode.Statement.{statement}
-use Rattle.trace.proofs.put.encode.Tie as tie
+use Rattle.put.proofs.encode.Statement.{statement}
+use Rattle.put.proofs.encode.Tie as tie
 
 abbrev Inv-loop : tie.InvT-loop
 Inv-loop s out₀ i₀ out i = Writing (pairs s) out₀ out (2 * length s) (2 * i)

@@ -1,14 +1,14 @@
 -- `text` meets its contract.
 use Prim.Native.Nat.{ℕ, _+_}
-use Rattle.trace.proofs.Outputs.{left-out, put-in, part-put, copied}
-use Rattle.trace.specs.Text.{output}
+use Rattle.put.proofs.Outputs.{left-out, put-in, part-put, copied}
+use Rattle.put.specs.Text.{output}
 use borrow.Author.Needs.{needs}
 use lib.ListN.{length}
 use mathlib.Core.List.{List}
 use mathlib.Core.Path.{ap, _∙_}
 use native.Mathlib.Omega.{arith}
-use Rattle.trace.proofs.put.text.Statement.{statement}
-use Rattle.trace.proofs.put.text.Tie as tie
+use Rattle.put.proofs.text.Statement.{statement}
+use Rattle.put.proofs.text.Tie as tie
 
 returns : tie.Need-returns
 returns c =

@@ -1,12 +1,12 @@
 -- `opt` meets its contract.
 use Prim.Native.Nat.{ℕ}
 use Rattle.rtp.specs.declared.opt.Opt.the-variants.{None, Some}
-use Rattle.trace.specs.Text.{ascii, decimal, optDecimal}
+use Rattle.put.specs.Text.{ascii, decimal, optDecimal}
 use borrow.Author.Needs.{needs}
 use mathlib.Core.Path.{_≡_}
 use mathlib.Core.Path.{refl}
-use Rattle.trace.proofs.put.opt.Statement.{statement}
-use Rattle.trace.proofs.put.opt.Tie as tie
+use Rattle.put.proofs.opt.Statement.{statement}
+use Rattle.put.proofs.opt.Tie as tie
 
 dash : optDecimal None ≡ ascii "-"
 unfolding optDecimal

@@ -1,12 +1,12 @@
 -- `field` meets its contract: the blank is stored before the bytes copied behind it.
 use Prim.Native.Nat.{_+_}
-use Rattle.trace.proofs.Outputs.{left-out, field-in, part-put, copied}
-use Rattle.trace.specs.Text.{field}
+use Rattle.put.proofs.Outputs.{left-out, field-in, part-put, copied}
+use Rattle.put.specs.Text.{field}
 use borrow.Author.Needs.{needs}
 use mathlib.Core.Path.{_∙_}
 use native.Mathlib.Omega.{arith}
-use Rattle.trace.proofs.put.field.Statement.{statement}
-use Rattle.trace.proofs.put.field.Tie as tie
+use Rattle.put.proofs.field.Statement.{statement}
+use Rattle.put.proofs.field.Tie as tie
 
 returns : tie.Need-returns
 returns c =

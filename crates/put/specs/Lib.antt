@@ -1,0 +1,2 @@
+-- What the contracts of `put` cite.
+pub mod Text
