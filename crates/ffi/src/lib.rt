@@ -223,10 +223,10 @@ fn figures_told(q: Queue) -> Figures
     ensures { λ r. ⌜ r ≡ Exported.queueFigures q ⌝ }
 {
     let config = q.config;
-    if !session::check::config_valid(config) {
+    if !checks::config_valid(config) {
         return answers::figures_refused(refusals::SESSION);
     }
-    if !session::check::queue_sound(q) {
+    if !checks::queue_sound(q) {
         return answers::figures_refused(refusals::SESSION);
     }
     let counters = q.counters;

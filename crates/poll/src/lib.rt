@@ -83,11 +83,11 @@ fn output_refusal(needed: usize, room: usize) -> u64
 }
 
 // 15, then 8
-pub(crate) fn output_and_clock(q: Queue, instant: u64, needed: usize, room: usize) -> u64
+pub(crate) fn output_and_clock_refusal(q: Queue, instant: u64, needed: usize, room: usize) -> u64
     ensures { λ r. ⌜ ((out : List ℕ) → length out ≡ room → r ≡ orElse (outputRefusal needed out) (clockRefusal q instant)) ⌝ }
 {
     let short = output_refusal(needed, room);
-    let late = session::check::clock(q, instant);
+    let late = checks::clock_refusal(q, instant);
     refusals::or_else(short, late)
 }
 
@@ -322,8 +322,8 @@ pub fn poll(
 ) -> Polled
     ensures { λ r. ⌜ Does (Calls.poll now (out .entry .now)) (stored session (entries .entry .now) (payloads .entry .now) (gaps .entry .now) (remembered .entry .now)) (Answers.pollAnswer (r .answer)) (stored (r .session) (entries .exit .now) (payloads .exit .now) (gaps .exit .now) (remembered .exit .now)) (out .exit .now) ⌝ }
 {
-    let damaged = storage::session(session, entries, payloads, gaps, remembered);
-    let late = output_and_clock(session.queue, now, rtp_packet::LARGEST_PAYLOAD, out.len());
+    let damaged = storage::session_refusal(session, entries, payloads, gaps, remembered);
+    let late = output_and_clock_refusal(session.queue, now, rtp_packet::LARGEST_PAYLOAD, out.len());
     let early = refusals::or_else(damaged, late);
     if early != 0 {
         return Polled {

@@ -98,8 +98,8 @@ pub fn poll_nack(
     ensures { λ r. ⌜ Does (Calls.pollNack now (out .entry .now)) (stored session (entries .entry .now) (payloads .entry .now) (gaps .entry .now) (remembered .entry .now)) (Answers.nackAnswer (r .answer)) (stored (r .session) (entries .exit .now) (payloads .exit .now) (gaps .exit .now) (remembered .exit .now)) (out .exit .now) ⌝ }
 {
     let needed = session.queue.config.settings.max_gaps;
-    let damaged = storage::session(session, entries, payloads, gaps, remembered);
-    let late = super::output_and_clock(session.queue, now, needed, out.len());
+    let damaged = storage::session_refusal(session, entries, payloads, gaps, remembered);
+    let late = super::output_and_clock_refusal(session.queue, now, needed, out.len());
     let early = refusals::or_else(damaged, late);
     if early != 0 {
         return PolledNack {

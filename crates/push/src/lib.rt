@@ -390,7 +390,14 @@ pub fn push(
 ) -> Pushed
     ensures { λ r. ⌜ Does (media now (datagram .entry .now)) (stored session (entries .entry .now) (payloads .entry .now) (gaps .entry .now) (remembered .entry .now)) (mediaAnswer (r .answer)) (stored (r .session) (entries .exit .now) (payloads .exit .now) (gaps .exit .now) (remembered .exit .now)) [] ⌝ }
 {
-    let refusal = storage::session_and_clock(session, entries, payloads, gaps, remembered, now);
+    let refusal = storage::session_and_clock_refusal(
+        session,
+        entries,
+        payloads,
+        gaps,
+        remembered,
+        now,
+    );
     if refusal != 0 {
         return refused(refusal, session);
     }

@@ -253,7 +253,7 @@ fn push_repair(
     requires { ⌜ length (now payload) ≤ LARGEST-REPAIR ⌝ }
     ensures { λ r. ⌜ didOriginal instant p (now (payload .entry)) (stored s (now (entries .entry)) (now (payloads .entry)) (now (gaps .entry)) (now (remembered .entry))) ≡ record { answer = repairAnswer (r .answer); stored = stored (r .session) (now (entries .exit)) (now (payloads .exit)) (now (gaps .exit)) (now (remembered .exit)); output = [] } ⌝ }
 {
-    let refusal = session::check::media_first(s.queue);
+    let refusal = checks::media_first_refusal(s.queue);
     if refusal != 0 {
         return refused(refusal, s);
     }
@@ -288,8 +288,15 @@ pub fn push_rtx(
 ) -> PushedRtx
     ensures { λ r. ⌜ Does (repair now (datagram .entry .now)) (stored session (entries .entry .now) (payloads .entry .now) (gaps .entry .now) (remembered .entry .now)) (repairAnswer (r .answer)) (stored (r .session) (entries .exit .now) (payloads .exit .now) (gaps .exit .now) (remembered .exit .now)) [] ⌝ }
 {
-    let damaged = storage::session_and_clock(session, entries, payloads, gaps, remembered, now);
-    let refusal = refusals::or_else(damaged, session::check::rtx(session.queue));
+    let damaged = storage::session_and_clock_refusal(
+        session,
+        entries,
+        payloads,
+        gaps,
+        remembered,
+        now,
+    );
+    let refusal = refusals::or_else(damaged, checks::rtx_refusal(session.queue));
     if refusal != 0 {
         return refused(refusal, session);
     }

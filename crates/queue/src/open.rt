@@ -53,7 +53,7 @@ fn refusal(
 ) -> u64
     ensures { λ r. ⌜ r ≡ openingRefusal config (storage (now (entries .entry)) (now (payloads .entry)) (now (gaps .entry)) (now (remembered .entry))) ⌝ }
 {
-    if !session::check::config_valid(config) {
+    if !checks::config_valid(config) {
         return refusals::SETTINGS;
     }
     let set = config.settings;

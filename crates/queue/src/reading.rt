@@ -78,7 +78,14 @@ pub fn timeout_receive(
 ) -> TimeoutAnswer
     ensures { λ r. ⌜ Does (Calls.timeoutReceive now) (stored session (entries .entry .now) (payloads .entry .now) (gaps .entry .now) (remembered .entry .now)) (timeoutAnswer r) (stored session (entries .exit .now) (payloads .exit .now) (gaps .exit .now) (remembered .exit .now)) [] ⌝ }
 {
-    let refusal = storage::session_and_clock(session, entries, payloads, gaps, remembered, now);
+    let refusal = storage::session_and_clock_refusal(
+        session,
+        entries,
+        payloads,
+        gaps,
+        remembered,
+        now,
+    );
     if refusal != 0 {
         return TimeoutAnswer::Refused(refusal);
     }
@@ -97,7 +104,14 @@ pub fn timeout_nack(
 ) -> TimeoutAnswer
     ensures { λ r. ⌜ Does (Calls.timeoutNack now) (stored session (entries .entry .now) (payloads .entry .now) (gaps .entry .now) (remembered .entry .now)) (timeoutAnswer r) (stored session (entries .exit .now) (payloads .exit .now) (gaps .exit .now) (remembered .exit .now)) [] ⌝ }
 {
-    let refusal = storage::session_and_clock(session, entries, payloads, gaps, remembered, now);
+    let refusal = storage::session_and_clock_refusal(
+        session,
+        entries,
+        payloads,
+        gaps,
+        remembered,
+        now,
+    );
     if refusal != 0 {
         return TimeoutAnswer::Refused(refusal);
     }
@@ -128,7 +142,7 @@ pub fn rtx_stats(
 ) -> StatsAnswer
     ensures { λ r. ⌜ Does Calls.rtxStats (stored session (entries .entry .now) (payloads .entry .now) (gaps .entry .now) (remembered .entry .now)) (statsAnswer r) (stored session (entries .exit .now) (payloads .exit .now) (gaps .exit .now) (remembered .exit .now)) [] ⌝ }
 {
-    let refusal = storage::session(session, entries, payloads, gaps, remembered);
+    let refusal = storage::session_refusal(session, entries, payloads, gaps, remembered);
     if refusal != 0 {
         return StatsAnswer::Refused(refusal);
     }
@@ -158,7 +172,7 @@ pub fn highest_sequence_number_received(
 ) -> HighestAnswer
     ensures { λ r. ⌜ Does Calls.highestReceived (stored session (entries .entry .now) (payloads .entry .now) (gaps .entry .now) (remembered .entry .now)) (highestAnswer r) (stored session (entries .exit .now) (payloads .exit .now) (gaps .exit .now) (remembered .exit .now)) [] ⌝ }
 {
-    let refusal = storage::session(session, entries, payloads, gaps, remembered);
+    let refusal = storage::session_refusal(session, entries, payloads, gaps, remembered);
     if refusal != 0 {
         return HighestAnswer::Refused(refusal);
     }

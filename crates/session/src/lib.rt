@@ -1,5 +1,5 @@
-// The parts of the queue (000) that need no storage: which check turns a call back by the session alone, and what a call makes of the
-// records that go by value. Each function is one definition of `model`.
+// The parts of the queue (000) that need no storage: what a call makes of the records that go by value, and which check turns it back by the
+// values that it works out. Each function is one definition of `model`.
 ghost use mathlib.Core.Path.{_≡_};
 ghost use Prim.Native.Nat.{_+_, _<_, _^_};
 ghost use Rattle.model.specs.Records as Records;
@@ -15,7 +15,6 @@ use rtp::ExtendedSequenceNumber;
 use rtp::RtpTimestamp;
 use rtp::SequenceNumber;
 
-pub mod check;
 pub mod nack;
 pub mod poll;
 pub mod push;

@@ -75,7 +75,7 @@ pub fn session_sound(
     let queue = s.queue;
     let config = queue.config;
     let set = config.settings;
-    if !session::check::config_valid(config) {
+    if !checks::config_valid(config) {
         return false;
     }
     if !lengths_fit(set, entries, payloads, gaps, remembered) {
@@ -84,14 +84,14 @@ pub fn session_sound(
     if !counts_fit(s) {
         return false;
     }
-    if !session::check::queue_sound(queue) {
+    if !checks::queue_sound(queue) {
         return false;
     }
     lists_sound(s, entries, gaps, remembered)
 }
 
 // 16
-pub fn session(
+pub fn session_refusal(
     s: Session,
     entries: &[u64],
     payloads: &[u8],
@@ -107,7 +107,7 @@ pub fn session(
 }
 
 // 16, then 8: what a call that only reads the clock checks.
-pub fn session_and_clock(
+pub fn session_and_clock_refusal(
     s: Session,
     entries: &[u64],
     payloads: &[u8],
@@ -117,8 +117,8 @@ pub fn session_and_clock(
 ) -> u64
     ensures { λ r. ⌜ r ≡ orElse (sessionRefusal (stored s (now (entries .entry)) (now (payloads .entry)) (now (gaps .entry)) (now (remembered .entry)))) (clockRefusal (s .queue) instant) ⌝ }
 {
-    let damaged = session(s, entries, payloads, gaps, remembered);
-    let late = session::check::clock(s.queue, instant);
+    let damaged = session_refusal(s, entries, payloads, gaps, remembered);
+    let late = checks::clock_refusal(s.queue, instant);
     refusals::or_else(damaged, late)
 }
 

@@ -15,8 +15,8 @@ use borrow.Author.Needs.{needs}
 use Rattle.push.proofs.push.Statement.{statement}
 use Rattle.push.proofs.push.Tie as tie
 
-session-and-clock-requires : tie.Need-session-and-clock-requires
-session-and-clock-requires c κs = search needs
+session-and-clock-refusal-requires : tie.Need-session-and-clock-refusal-requires
+session-and-clock-refusal-requires c κs = search needs
 
 refused-requires : tie.Need-refused-requires
 refused-requires c κs = search needs
@@ -36,7 +36,7 @@ same-length-4 c = search needs
 returns : tie.Need-returns
 unfolding mediaAnswer
 returns c = let s = c .before .before .before .before .before .before .before .before .before .before .before .before in
-    rw (c .refused .ensures) (media-early (s .args .now) (s .args .datagram .now) (stored (s .args .session) (s .args .entries .now) (s .args .payloads .now) (s .args .gaps .now) (s .args .remembered .now)) _ (c .before .before .session-and-clock .ensures) (c .before .if1 .taken))
+    rw (c .refused .ensures) (media-early (s .args .now) (s .args .datagram .now) (stored (s .args .session) (s .args .entries .now) (s .args .payloads .now) (s .args .gaps .now) (s .args .remembered .now)) _ (c .before .before .session-and-clock-refusal .ensures) (c .before .if1 .taken))
 
 parse-media-requires : tie.Need-parse-media-requires
 parse-media-requires c κs = search needs
@@ -55,7 +55,7 @@ payload-requires c κs = search needs
 
 push-packet-requires : tie.Need-push-packet-requires
 push-packet-requires c κs = let s = c .before .before .before .before .before .before .before .before .before .before .before .before .before .before .before .before .before .before .before .before .before .before .before in
-    let z = orElse-none _ _ (sym (c .before .before .before .before .before .before .before .before .before .before .before .before .before .session-and-clock .ensures) ∙ c .before .before .before .before .before .before .before .before .before .before .before .before .if1 .left) in
+    let z = orElse-none _ _ (sym (c .before .before .before .before .before .before .before .before .before .before .before .before .before .session-and-clock-refusal .ensures) ∙ c .before .before .before .before .before .before .before .before .before .before .before .before .if1 .left) in
     let x = parsed-packet _ _ LARGEST-PAYLOAD (s .args .datagram .now) _ (sym (c .before .before .before .before .before .before .before .before .parse-media .ensures) ∙ c .before .before .before .before .before .before .p .given .1) in
     let l = ap length (payload-is (s .args .datagram .now) _ _ (c .before .before .before .before .payload .ensures) (x .1)) in
     (passed-16 (stored (s .args .session) (s .args .entries .now) (s .args .payloads .now) (s .args .gaps .now) (s .args .remembered .now)) (z .0), (clock-of (s .args .session .queue) (s .args .now) (z .1) .1, omega (arith, l, payload-fits _ _ LARGEST-PAYLOAD (s .args .datagram .now) (x .0))))
@@ -76,7 +76,7 @@ returns-2 : tie.Need-returns-2
 unfolding mediaAnswer
 returns-2 c = let s = c .before .before .before .before .before .before .before .before .before .before .before .before .before .before .before .before .before .before .before in
     let x = parsed-refused _ _ LARGEST-PAYLOAD _ (s .args .datagram .now) (sym (c .before .before .before .before .parse-media .ensures) ∙ c .before .before .number .given .1) in
-    rw (c .refused2 .ensures) (media-unread (s .args .now) (s .args .datagram .now) (stored (s .args .session) (s .args .entries .now) (s .args .payloads .now) (s .args .gaps .now) (s .args .remembered .now)) _ (c .before .before .before .before .before .before .before .before .before .session-and-clock .ensures) (c .before .before .before .before .before .before .before .before .if1 .left) _ (x .0) (x .1))
+    rw (c .refused2 .ensures) (media-unread (s .args .now) (s .args .datagram .now) (stored (s .args .session) (s .args .entries .now) (s .args .payloads .now) (s .args .gaps .now) (s .args .remembered .now)) _ (c .before .before .before .before .before .before .before .before .before .session-and-clock-refusal .ensures) (c .before .before .before .before .before .before .before .before .if1 .left) _ (x .0) (x .1))
 
 same-length-9 : tie.Need-same-length-9
 same-length-9 c = search needs
@@ -93,13 +93,13 @@ same-length-12 c = search needs
 returns-3 : tie.Need-returns-3
 returns-3 c = let s = c .before .before .before .before .before .before .before .before .before .before .before .before .before .before .before .before .before .before .before .before .before .before .before .before .before .before .before .before .before .before .before .before in
     let x = parsed-packet _ _ LARGEST-PAYLOAD (s .args .datagram .now) _ (sym (c .before .before .before .before .before .before .before .before .before .before .before .before .before .before .before .before .before .parse-media .ensures) ∙ c .before .before .before .before .before .before .before .before .before .before .before .before .before .before .before .p .given .1) in
-    media-read (s .args .now) (s .args .datagram .now) (stored (s .args .session) (s .args .entries .now) (s .args .payloads .now) (s .args .gaps .now) (s .args .remembered .now)) _ (c .before .before .before .before .before .before .before .before .before .before .before .before .before .before .before .before .before .before .before .before .before .before .session-and-clock .ensures) (c .before .before .before .before .before .before .before .before .before .before .before .before .before .before .before .before .before .before .before .before .before .if1 .left) _ _ _ (x .0) (x .1) (payload-is (s .args .datagram .now) _ _ (c .before .before .before .before .before .before .before .before .before .before .before .before .before .payload .ensures) (x .1)) (c .before .before .before .before .before .before .before .before .push-packet .ensures)
+    media-read (s .args .now) (s .args .datagram .now) (stored (s .args .session) (s .args .entries .now) (s .args .payloads .now) (s .args .gaps .now) (s .args .remembered .now)) _ (c .before .before .before .before .before .before .before .before .before .before .before .before .before .before .before .before .before .before .before .before .before .before .session-and-clock-refusal .ensures) (c .before .before .before .before .before .before .before .before .before .before .before .before .before .before .before .before .before .before .before .before .before .if1 .left) _ _ _ (x .0) (x .1) (payload-is (s .args .datagram .now) _ _ (c .before .before .before .before .before .before .before .before .before .before .before .before .before .payload .ensures) (x .1)) (c .before .before .before .before .before .before .before .before .push-packet .ensures)
 
 pub push-spec : {M : Type 1} → statement M
 push-spec =
     tie.close
     (tie.spec
-    session-and-clock-requires
+    session-and-clock-refusal-requires
     refused-requires
     same-length
     same-length-2

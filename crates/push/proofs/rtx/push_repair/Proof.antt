@@ -12,15 +12,15 @@ use borrow.Author.Needs.{needs}
 use Rattle.push.proofs.rtx.push_repair.Statement.{statement}
 use Rattle.push.proofs.rtx.push_repair.Tie as tie
 
-media-first-requires : tie.Need-media-first-requires
-media-first-requires c κs = search needs
+media-first-refusal-requires : tie.Need-media-first-refusal-requires
+media-first-refusal-requires c κs = search needs
 
 refused-requires : tie.Need-refused-requires
 refused-requires c κs = search needs
 
 returns : tie.Need-returns
 unfolding repairAnswer
-returns c = let s = c .before .before .before .before .before .before .before .before in rw (c .refused .ensures) (original-early (s .args .instant) (s .args .p) (s .args .payload .now) (stored (s .args .s) (s .args .entries .now) (s .args .payloads .now) (s .args .gaps .now) (s .args .remembered .now)) _ (c .before .before .media-first .ensures) (c .before .if1 .taken))
+returns c = let s = c .before .before .before .before .before .before .before .before in rw (c .refused .ensures) (original-early (s .args .instant) (s .args .p) (s .args .payload .now) (stored (s .args .s) (s .args .entries .now) (s .args .payloads .now) (s .args .gaps .now) (s .args .remembered .now)) _ (c .before .before .media-first-refusal .ensures) (c .before .if1 .taken))
 
 original-number-requires : tie.Need-original-number-requires
 original-number-requires c κs = search needs
@@ -45,7 +45,7 @@ returns-2 : tie.Need-returns-2
 unfolding repairAnswer
 returns-2 c = let s = c .before .before .before .before .before .before .before .before .before .before .before .before in
     let x = original-refused (s .args .payload .now) _ (sym (c .before .before .before .before .original-number .ensures) ∙ c .before .before .k .given .1) in
-    rw (c .refused2 .ensures) (original-refused-is (s .args .instant) (s .args .p) (s .args .payload .now) (stored (s .args .s) (s .args .entries .now) (s .args .payloads .now) (s .args .gaps .now) (s .args .remembered .now)) (sym (c .before .before .before .before .before .before .media-first .ensures) ∙ c .before .before .before .before .before .if1 .left) _ (x .0) (x .1))
+    rw (c .refused2 .ensures) (original-refused-is (s .args .instant) (s .args .p) (s .args .payload .now) (stored (s .args .s) (s .args .entries .now) (s .args .payloads .now) (s .args .gaps .now) (s .args .remembered .now)) (sym (c .before .before .before .before .before .before .media-first-refusal .ensures) ∙ c .before .before .before .before .before .if1 .left) _ (x .0) (x .1))
 
 same-length : tie.Need-same-length
 same-length c = search needs
@@ -62,13 +62,13 @@ same-length-4 c = search needs
 returns-3 : tie.Need-returns-3
 returns-3 c = let s = c .before .before .before .before .before .before .before .before .before .before .before .before .before .before .before .before .before .before .before .before .before .before .before .before .before in
     let x = original-number (s .args .payload .now) _ (sym (c .before .before .before .before .before .before .before .before .before .before .before .before .before .before .before .before .before .original-number .ensures) ∙ c .before .before .before .before .before .before .before .before .before .before .before .before .before .before .before .number .given .1) in
-    original-is (s .args .instant) (s .args .p) (s .args .payload .now) (stored (s .args .s) (s .args .entries .now) (s .args .payloads .now) (s .args .gaps .now) (s .args .remembered .now)) (sym (c .before .before .before .before .before .before .before .before .before .before .before .before .before .before .before .before .before .before .before .media-first .ensures) ∙ c .before .before .before .before .before .before .before .before .before .before .before .before .before .before .before .before .before .before .if1 .left) _ _ _ (x .0) (ap (λ (y : SequenceNumber). y .0) (x .1)) (c .before .before .before .before .before .before .before .before .before .before .before .before .before .original-payload .ensures) (c .before .before .before .before .before .before .before .before .push-original .ensures)
+    original-is (s .args .instant) (s .args .p) (s .args .payload .now) (stored (s .args .s) (s .args .entries .now) (s .args .payloads .now) (s .args .gaps .now) (s .args .remembered .now)) (sym (c .before .before .before .before .before .before .before .before .before .before .before .before .before .before .before .before .before .before .before .media-first-refusal .ensures) ∙ c .before .before .before .before .before .before .before .before .before .before .before .before .before .before .before .before .before .before .if1 .left) _ _ _ (x .0) (ap (λ (y : SequenceNumber). y .0) (x .1)) (c .before .before .before .before .before .before .before .before .before .before .before .before .before .original-payload .ensures) (c .before .before .before .before .before .before .before .before .push-original .ensures)
 
 pub push-repair-spec : {M : Type 1} → statement M
 push-repair-spec =
     tie.close
     (tie.spec
-    media-first-requires
+    media-first-refusal-requires
     refused-requires
     returns
     original-number-requires

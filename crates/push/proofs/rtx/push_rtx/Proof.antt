@@ -16,11 +16,11 @@ use borrow.Author.Needs.{needs}
 use Rattle.push.proofs.rtx.push_rtx.Statement.{statement}
 use Rattle.push.proofs.rtx.push_rtx.Tie as tie
 
-session-and-clock-requires : tie.Need-session-and-clock-requires
-session-and-clock-requires c κs = search needs
+session-and-clock-refusal-requires : tie.Need-session-and-clock-refusal-requires
+session-and-clock-refusal-requires c κs = search needs
 
-rtx-requires : tie.Need-rtx-requires
-rtx-requires c κs = search needs
+rtx-refusal-requires : tie.Need-rtx-refusal-requires
+rtx-refusal-requires c κs = search needs
 
 or-else-requires : tie.Need-or-else-requires
 or-else-requires c κs = search needs
@@ -43,7 +43,7 @@ same-length-4 c = search needs
 returns : tie.Need-returns
 unfolding repairAnswer
 returns c = let s = c .before .before .before .before .before .before .before .before .before .before .before .before .before .before in
-    rw (c .refused .ensures) (repair-early (s .args .now) (s .args .datagram .now) (stored (s .args .session) (s .args .entries .now) (s .args .payloads .now) (s .args .gaps .now) (s .args .remembered .now)) _ _ (c .before .before .before .before .session-and-clock .ensures) (c .before .before .or-else .ensures ∙ ap (orElse _) (c .before .before .before .rtx .ensures)) (c .before .if1 .taken))
+    rw (c .refused .ensures) (repair-early (s .args .now) (s .args .datagram .now) (stored (s .args .session) (s .args .entries .now) (s .args .payloads .now) (s .args .gaps .now) (s .args .remembered .now)) _ _ (c .before .before .before .before .session-and-clock-refusal .ensures) (c .before .before .or-else .ensures ∙ ap (orElse _) (c .before .before .before .rtx-refusal .ensures)) (c .before .if1 .taken))
 
 parse-repair-requires : tie.Need-parse-repair-requires
 parse-repair-requires c κs = search needs
@@ -63,7 +63,7 @@ payload-requires c κs = search needs
 push-repair-requires : tie.Need-push-repair-requires
 push-repair-requires c κs = let s = c .before .before .before .before .before .before .before .before .before .before .before .before .before .before .before .before .before .before .before .before .before .before .before .before .before in
     let z = orElse-none _ _ (sym (c .before .before .before .before .before .before .before .before .before .before .before .before .before .or-else .ensures) ∙ c .before .before .before .before .before .before .before .before .before .before .before .before .if1 .left) in
-    let y = orElse-none _ _ (sym (c .before .before .before .before .before .before .before .before .before .before .before .before .before .before .before .session-and-clock .ensures) ∙ z .0) in
+    let y = orElse-none _ _ (sym (c .before .before .before .before .before .before .before .before .before .before .before .before .before .before .before .session-and-clock-refusal .ensures) ∙ z .0) in
     let x = parsed-packet _ _ LARGEST-REPAIR (s .args .datagram .now) _ (sym (c .before .before .before .before .before .before .before .before .parse-repair .ensures) ∙ c .before .before .before .before .before .before .p .given .1) in
     let l = ap length (payload-is (s .args .datagram .now) _ _ (c .before .before .before .before .payload .ensures) (x .1)) in
     (passed-16 (stored (s .args .session) (s .args .entries .now) (s .args .payloads .now) (s .args .gaps .now) (s .args .remembered .now)) (y .0), omega (arith, l, payload-fits _ _ LARGEST-REPAIR (s .args .datagram .now) (x .0)))
@@ -84,7 +84,7 @@ returns-2 : tie.Need-returns-2
 unfolding repairAnswer
 returns-2 c = let s = c .before .before .before .before .before .before .before .before .before .before .before .before .before .before .before .before .before .before .before .before .before in
     let x = parsed-refused _ _ LARGEST-REPAIR _ (s .args .datagram .now) (sym (c .before .before .before .before .parse-repair .ensures) ∙ c .before .before .k .given .1) in
-    rw (c .refused2 .ensures) (repair-unread (s .args .now) (s .args .datagram .now) (stored (s .args .session) (s .args .entries .now) (s .args .payloads .now) (s .args .gaps .now) (s .args .remembered .now)) _ _ (c .before .before .before .before .before .before .before .before .before .before .before .session-and-clock .ensures) (c .before .before .before .before .before .before .before .before .before .or-else .ensures ∙ ap (orElse _) (c .before .before .before .before .before .before .before .before .before .before .rtx .ensures)) (c .before .before .before .before .before .before .before .before .if1 .left) _ (x .0) (x .1))
+    rw (c .refused2 .ensures) (repair-unread (s .args .now) (s .args .datagram .now) (stored (s .args .session) (s .args .entries .now) (s .args .payloads .now) (s .args .gaps .now) (s .args .remembered .now)) _ _ (c .before .before .before .before .before .before .before .before .before .before .before .session-and-clock-refusal .ensures) (c .before .before .before .before .before .before .before .before .before .or-else .ensures ∙ ap (orElse _) (c .before .before .before .before .before .before .before .before .before .before .rtx-refusal .ensures)) (c .before .before .before .before .before .before .before .before .if1 .left) _ (x .0) (x .1))
 
 same-length-9 : tie.Need-same-length-9
 same-length-9 c = search needs
@@ -101,14 +101,14 @@ same-length-12 c = search needs
 returns-3 : tie.Need-returns-3
 returns-3 c = let s = c .before .before .before .before .before .before .before .before .before .before .before .before .before .before .before .before .before .before .before .before .before .before .before .before .before .before .before .before .before .before .before .before .before .before in
     let x = parsed-packet _ _ LARGEST-REPAIR (s .args .datagram .now) _ (sym (c .before .before .before .before .before .before .before .before .before .before .before .before .before .before .before .before .before .parse-repair .ensures) ∙ c .before .before .before .before .before .before .before .before .before .before .before .before .before .before .before .p .given .1) in
-    repair-read (s .args .now) (s .args .datagram .now) (stored (s .args .session) (s .args .entries .now) (s .args .payloads .now) (s .args .gaps .now) (s .args .remembered .now)) _ _ (c .before .before .before .before .before .before .before .before .before .before .before .before .before .before .before .before .before .before .before .before .before .before .before .before .session-and-clock .ensures) (c .before .before .before .before .before .before .before .before .before .before .before .before .before .before .before .before .before .before .before .before .before .before .or-else .ensures ∙ ap (orElse _) (c .before .before .before .before .before .before .before .before .before .before .before .before .before .before .before .before .before .before .before .before .before .before .before .rtx .ensures)) (c .before .before .before .before .before .before .before .before .before .before .before .before .before .before .before .before .before .before .before .before .before .if1 .left) _ _ _ (x .0) (x .1) (payload-is (s .args .datagram .now) _ _ (c .before .before .before .before .before .before .before .before .before .before .before .before .before .payload .ensures) (x .1)) (c .before .before .before .before .before .before .before .before .push-repair .ensures)
+    repair-read (s .args .now) (s .args .datagram .now) (stored (s .args .session) (s .args .entries .now) (s .args .payloads .now) (s .args .gaps .now) (s .args .remembered .now)) _ _ (c .before .before .before .before .before .before .before .before .before .before .before .before .before .before .before .before .before .before .before .before .before .before .before .before .session-and-clock-refusal .ensures) (c .before .before .before .before .before .before .before .before .before .before .before .before .before .before .before .before .before .before .before .before .before .before .or-else .ensures ∙ ap (orElse _) (c .before .before .before .before .before .before .before .before .before .before .before .before .before .before .before .before .before .before .before .before .before .before .before .rtx-refusal .ensures)) (c .before .before .before .before .before .before .before .before .before .before .before .before .before .before .before .before .before .before .before .before .before .if1 .left) _ _ _ (x .0) (x .1) (payload-is (s .args .datagram .now) _ _ (c .before .before .before .before .before .before .before .before .before .before .before .before .before .payload .ensures) (x .1)) (c .before .before .before .before .before .before .before .before .push-repair .ensures)
 
 pub push-rtx-spec : {M : Type 1} → statement M
 push-rtx-spec =
     tie.close
     (tie.spec
-    session-and-clock-requires
-    rtx-requires
+    session-and-clock-refusal-requires
+    rtx-refusal-requires
     or-else-requires
     refused-requires
     same-length
