@@ -1,9 +1,8 @@
 -- `push` once the datagram is read: what becomes of a packet, and what the functions over the lists ask of it.
 use mathlib.Core.Path.{_≡_}
-use mathlib.Core.Bool.{true, cond}
+use mathlib.Core.Bool.{true}
 use mathlib.Core.List.{List, []}
 use Prim.Native.Nat.{ℕ, _+_, _*_, _-_, _≤_, _<_}
-use lib.Dec.{eqb}
 use lib.ListN.{length}
 use Rattle.model.specs.declared.Session.{Session}
 use Rattle.model.specs.Lists.{some?}
@@ -11,7 +10,6 @@ use Rattle.model.specs.Records.{Entry, State}
 use Rattle.model.specs.Rules.{Place, first, near, far, fills, other, is}
 use Rattle.model.specs.Push.{mediaPlace, afterPlaced}
 use Rattle.model.specs.Storage.{Stored, GAP-WORDS, gapsOf, parse, write}
-use Rattle.model.specs.Calls as Calls
 use Rattle.model.specs.Calls.{placedAnswer}
 use Rattle.model.specs.Table.{packetRefusal}
 use Rattle.model.specs.Did.{Done}
@@ -20,6 +18,7 @@ use Rattle.entries.specs.Entries.{entry, Incoming}
 use Rattle.session.specs.declared.push.Place as Code
 use Rattle.session.specs.Place.{place}
 use Rattle.storage.specs.Settled.{Settled}
+use Rattle.push.specs.Answers.{unlessRefused}
 
 -- the session says what the state has
 pub record Counts (s : Session) (st : State) : Type 0 where
@@ -28,10 +27,8 @@ pub record Counts (s : Session) (st : State) : Type 0 where
   pub gaps : length (st .gaps) ≡ s .gaps
 
 unfoldable pub didPlace : ℕ → Entry → Place → Stored → Done
-didPlace instant e p m =
-    cond (eqb (packetRefusal instant e p (parse m)) 0)
-    (record { answer = placedAnswer p; stored = write (afterPlaced instant e p (parse m)); output = [] })
-    (record { answer = Calls.refused (packetRefusal instant e p (parse m)); stored = m; output = [] })
+unfolding unlessRefused
+didPlace instant e p m = unlessRefused (packetRefusal instant e p (parse m)) m (record { answer = placedAnswer p; stored = write (afterPlaced instant e p (parse m)); output = [] })
 
 -- what `did` says of a media packet that no check before 14 turns back
 unfoldable pub didPacket : ℕ → Entry → Stored → Done

@@ -1,9 +1,7 @@
 -- `push_rtx` once the datagram is read: what becomes of a repair, and what the functions over the lists ask of it.
 use mathlib.Core.Path.{_≡_}
-use mathlib.Core.Bool.{cond}
 use mathlib.Core.List.{List, []}
 use Prim.Native.Nat.{ℕ, _-_}
-use lib.Dec.{eqb}
 use Rattle.rtp.specs.declared.opt.Opt.{Opt}
 use Rattle.rtp.specs.declared.opt.Opt.the-variants.{None, Some}
 use Rattle.rtp_packet.specs.declared.RtpPacket.{RtpPacket}
@@ -19,12 +17,11 @@ use Rattle.entries.specs.Entries.{entry, Incoming}
 use Rattle.session.specs.declared.rtx.Fate as Code
 use Rattle.session.specs.Place.{fate}
 use Rattle.storage.specs.Settled.{Settled}
+use Rattle.push.specs.Answers.{unlessRefused}
 
 unfoldable pub didFate : ℕ → Entry → Fate → Stored → Done
-didFate instant e f m =
-    cond (eqb (fateRefusal e f (parse m)) 0)
-    (record { answer = Calls.repaired f; stored = write (afterFate instant e f (parse m)); output = [] })
-    (record { answer = Calls.refused (fateRefusal e f (parse m)); stored = m; output = [] })
+unfolding unlessRefused
+didFate instant e f m = unlessRefused (fateRefusal e f (parse m)) m (record { answer = Calls.repaired f; stored = write (afterFate instant e f (parse m)); output = [] })
 
 -- what `did` says of a repair that no check before 14 turns back
 unfoldable pub didRepair : ℕ → Entry → Stored → Done
@@ -32,11 +29,11 @@ didRepair instant e m = didFate instant e (repairFate (parse m) (e .number)) m
 
 -- what `did` says of a repair that no check before 10 turns back
 unfoldable pub didOriginal : ℕ → RtpPacket → List ℕ → Stored → Done
+unfolding unlessRefused
 didOriginal instant p payload m =
     let q = m .session .queue in
-    cond (eqb (originalNumberRefusal q payload) 0)
+    unlessRefused (originalNumberRefusal q payload) m
     (didRepair instant (extendedEntry q None (p .timestamp .0) (originalNumber payload) (p .marker) (originalPayload payload)) m)
-    (record { answer = Calls.refused (originalNumberRefusal q payload); stored = m; output = [] })
 
 -- how many are left of n, where one may have gone
 unfoldable pub leftAfter : ℕ → Opt → ℕ

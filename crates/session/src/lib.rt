@@ -5,7 +5,6 @@ ghost use Prim.Native.Nat.{_+_, _<_, _^_};
 ghost use Rattle.model.specs.Records as Records;
 ghost use Rattle.model.specs.Push as Push;
 ghost use Rattle.model.specs.Poll as Poll;
-use config::RtpInboundQueueMode;
 use model::Counters;
 use model::LastReceived;
 use model::LastReturned;
@@ -41,28 +40,13 @@ pub fn extended_timestamp(q: Queue, got: RtpTimestamp) -> ExtendedRtpTimestamp
     }
 }
 
-// Whether the number is at or below the last returned one.
-fn at_or_below(number: ExtendedSequenceNumber, returned: LastReturned) -> bool
-    ensures { λ r. ⌜ r ≡ Push.atOrBelow (number .0) (Records.returnedOf returned) ⌝ }
-{
-    match returned {
-        LastReturned::None => false,
-        LastReturned::Some(n) => number.0 <= n.0,
-    }
-}
-
 // Whether a sorted queue has passed the number.
 pub fn passed(q: Queue, number: ExtendedSequenceNumber) -> bool
     ensures { λ r. ⌜ r ≡ Push.passed (q .config .settings .mode) (Records.returnedOf (q .returned)) (number .0) ⌝ }
 {
-    let config = q.config;
-    let settings = config.settings;
-    let mode = settings.mode;
-    let returned = q.returned;
-    match mode {
-        RtpInboundQueueMode::Passthrough => false,
-        RtpInboundQueueMode::SortedQueue => at_or_below(number, returned),
-    }
+    let bounds = packet_gaps::check::bounds_of(q);
+    let passed = bounds.passed;
+    !packet_gaps::check::above(passed, number)
 }
 
 // The clock and the jitter follow every media packet, also one that is then dropped.
