@@ -10,7 +10,10 @@ use crate::output;
 use crate::output::Answers;
 use libc::STDIN_FILENO;
 
-type Line = [u8; 4096];
+// One byte more than the longest line that is read (docs/TRACE.md, "Lines").
+pub const LINE: usize = 4096;
+
+type Line = [u8; LINE];
 
 // Puts a part of a line behind its first n bytes, as far as the buffer goes. How many stand there then.
 fn gather(line: &mut [u8], n: usize, part: &[u8]) -> usize {
