@@ -19,13 +19,16 @@ use Rattle.calls.specs.declared.SessionCall.the-variants as SessionCall
 use Rattle.calls.specs.declared.reading.ReadingCall.{ReadingCall}
 use Rattle.calls.specs.declared.reading.ReadingCall.the-variants as ReadingCall
 
--- The queue's call on `before` gave an answer and left `after`, and that answer's line stands behind what the output had. `did` leaves
--- one answer and one lent list, so the line is fixed.
+-- The queue's call on `before` gave an answer and left `after`, and that answer's line stands behind what the output had.
 pub record Answered (call : Calls.Call) (before after : Stored) (had has : Output) : Type 0 where
   pub answer : Answer
   pub lent : List ℕ
   pub does : Does call before answer after lent
   pub text : has ≡ putAll (answerLine answer lent) had
+
+-- `did` gives one answer and one lent list, so one session is left and one line put.
+abbrev pub OneLine : Type 0
+OneLine = (call : Calls.Call) (before a b : Stored) (had p q : Output) → Answered call before a had p → Answered call before b had q → (a ≡ b) × (p ≡ q)
 
 -- ---- the calls of a trace that are made on a session
 

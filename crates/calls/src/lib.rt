@@ -3,13 +3,16 @@ ghost use mathlib.Core.Path.{_≡_};
 ghost use Rattle.model.specs.Calls as Calls;
 ghost use Rattle.model.specs.Contract.{stored};
 ghost use Rattle.trace.specs.Text.{output};
-ghost use Rattle.calls.specs.Answered.{Answered, pollCall, nackCall, queueCall, sessionCall};
+ghost use Rattle.calls.specs.Answered.{Answered, OneLine, pollCall, nackCall, queueCall, sessionCall};
 use model::Session;
 use reading::ReadingCall;
 use trace::Call;
 
 pub mod opening;
 pub mod reading;
+
+// The largest G (01, refusal 1).
+pub const MAX_GAPS: usize = 4096;
 
 // The calls of a trace that are made on a session, with their NOW. A datagram is lent beside them.
 pub enum SessionCall {
@@ -105,7 +108,7 @@ pub fn poll_nack(
 ) -> Made
     ensures { λ r. ⌜ Answered (nackCall now) (stored s (entries .entry .now) (payloads .entry .now) (gaps .entry .now) (remembered .entry .now)) (stored (r .session) (entries .exit .now) (payloads .exit .now) (gaps .exit .now) (remembered .exit .now)) (output (out .entry .now) at) (output (out .exit .now) (r .at)) ⌝ }
 {
-    let mut numbers = [0u16; 4096];
+    let mut numbers = [0u16; MAX_GAPS];
     let done = poll::nack::poll_nack(s, entries, payloads, gaps, remembered, now, &mut numbers);
     let answer = done.answer;
     let session = done.session;
@@ -134,6 +137,7 @@ pub fn session_call(call: Call) -> OptSessionCall
     OptSessionCall::Some(made)
 }
 
+// The bytes are the datagram of a call that has one.
 pub fn make(
     s: Session,
     entries: &mut [u64],
@@ -141,38 +145,18 @@ pub fn make(
     gaps: &mut [u64],
     remembered: &mut [u64],
     call: SessionCall,
-    datagram: &[u8],
+    bytes: &[u8],
     out: &mut [u8],
     at: usize,
 ) -> Made
-    ensures { λ r. ⌜ Answered (queueCall call (datagram .entry .now)) (stored s (entries .entry .now) (payloads .entry .now) (gaps .entry .now) (remembered .entry .now)) (stored (r .session) (entries .exit .now) (payloads .exit .now) (gaps .exit .now) (remembered .exit .now)) (output (out .entry .now) at) (output (out .exit .now) (r .at)) ⌝ }
+    ensures { λ r. ⌜ Answered (queueCall call (bytes .entry .now)) (stored s (entries .entry .now) (payloads .entry .now) (gaps .entry .now) (remembered .entry .now)) (stored (r .session) (entries .exit .now) (payloads .exit .now) (gaps .exit .now) (remembered .exit .now)) (output (out .entry .now) at) (output (out .exit .now) (r .at)) ⌝ }
 {
     match call {
         SessionCall::Media(now) => {
-            media(
-                s,
-                entries,
-                payloads,
-                gaps,
-                remembered,
-                now,
-                datagram,
-                out,
-                at,
-            )
+            media(s, entries, payloads, gaps, remembered, now, bytes, out, at)
         }
         SessionCall::Repair(now) => {
-            repair(
-                s,
-                entries,
-                payloads,
-                gaps,
-                remembered,
-                now,
-                datagram,
-                out,
-                at,
-            )
+            repair(s, entries, payloads, gaps, remembered, now, bytes, out, at)
         }
         SessionCall::Poll(now) => poll(s, entries, payloads, gaps, remembered, now, out, at),
         SessionCall::PollNack(now) => {
@@ -184,3 +168,8 @@ pub fn make(
         },
     }
 }
+
+// `Answered` leaves neither the session nor the line open.
+pub fn one_line()
+    ensures { λ _. ⌜ OneLine ⌝ }
+{}

@@ -1,6 +1,7 @@
 // A line's call, made on the session that is held.
 ghost use Prim.Native.Nat.{_≤_};
 use crate::lists;
+use calls::MAX_GAPS;
 use calls::OptSessionCall;
 use calls::SessionCall;
 use calls::opening;
@@ -14,10 +15,8 @@ use queue::Opening;
 use trace::Call;
 use trace::OpenFields;
 
-// The largest D and G (01, refusal 1).
-const MAX_D: usize = 1024;
-
-pub const MAX_G: usize = 4096;
+// The largest D (01, refusal 1).
+const MAX_ENTRIES: usize = 1024;
 
 // Each one of D asks for two places of an entry.
 const D_WORDS: usize = 2 * ENTRY_WORDS;
@@ -25,11 +24,11 @@ const D_WORDS: usize = 2 * ENTRY_WORDS;
 const D_BYTES: usize = 2 * PAYLOAD_BYTES;
 
 // Storage for the largest session.
-pub const ENTRIES: usize = D_WORDS * MAX_D;
+pub const ENTRIES: usize = D_WORDS * MAX_ENTRIES;
 
-pub const PAYLOADS: usize = D_BYTES * MAX_D;
+pub const PAYLOADS: usize = D_BYTES * MAX_ENTRIES;
 
-pub const GAPS: usize = GAP_WORDS * MAX_G;
+pub const GAPS: usize = GAP_WORDS * MAX_GAPS;
 
 pub const REMEMBERED: usize = REMEMBERED_WORDS * MAX_LOST_NACKED;
 

@@ -15,6 +15,9 @@ pub const LINE: usize = 4096;
 
 type Line = [u8; LINE];
 
+// As many bytes as the HEX of a line can be, and more.
+const DATAGRAM: usize = LINE / 2;
+
 // Puts a part of a line behind its first n bytes, as far as the buffer goes. How many stand there then.
 fn gather(line: &mut [u8], n: usize, part: &[u8]) -> usize {
     if line.len() < n {
@@ -45,7 +48,7 @@ fn answer(
         return Step { held, at: filled };
     }
     let at = output::room(out, filled);
-    let mut bytes = [0u8; 2048];
+    let mut bytes = [0u8; DATAGRAM];
     let call = trace::read(&line[0..n], &mut bytes);
     held::answer(
         held,

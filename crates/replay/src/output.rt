@@ -1,12 +1,12 @@
 // Answers are gathered in a lent buffer, of which `at` bytes are filled, and written in blocks.
-use crate::held::MAX_G;
+use calls::MAX_GAPS;
 use libc::STDOUT_FILENO;
 
 // A block of answers.
 pub type Answers = [u8; 65536];
 
 // The longest line of an answer: `nack`, a number of at most five digits and its blank for each of the largest G, and the line feed.
-const ROOM: usize = 4 + 6 * MAX_G + 1;
+const ROOM: usize = 4 + 6 * MAX_GAPS + 1;
 
 // Writes what is gathered.
 pub fn write(out: &[u8], at: usize) {
