@@ -45,20 +45,29 @@ readingCall (ReadingCall.TimeoutNack now) = Calls.timeoutNack now
 readingCall ReadingCall.RtxStats = Calls.rtxStats
 readingCall ReadingCall.Highest = Calls.highestReceived
 
--- with the datagram that is lent beside it
+-- with the datagram that is sent
 unfoldable pub queueCall : SessionCall → List ℕ → Calls.Call
-queueCall (SessionCall.Media now) datagram = Calls.media now datagram
-queueCall (SessionCall.Repair now) datagram = Calls.repair now datagram
+queueCall (SessionCall.Media d) datagram = Calls.media (d .now) datagram
+queueCall (SessionCall.Repair d) datagram = Calls.repair (d .now) datagram
 queueCall (SessionCall.Poll now) datagram = pollCall now
 queueCall (SessionCall.PollNack now) datagram = nackCall now
 queueCall (SessionCall.Reading k) datagram = readingCall k
 
+-- how many bytes that datagram has
+unfoldable pub sizeOf : SessionCall → ℕ
+sizeOf (SessionCall.Media d) = d .size
+sizeOf (SessionCall.Repair d) = d .size
+sizeOf (SessionCall.Poll now) = 0
+sizeOf (SessionCall.PollNack now) = 0
+sizeOf (SessionCall.Reading k) = 0
+
+-- the call that a line is, if it is made on a session and its answer is one line
 unfoldable pub sessionCall : Call → OptSessionCall
 sessionCall Call.PassedOver = OptSessionCall.None
 sessionCall Call.Unreadable = OptSessionCall.None
 sessionCall (Call.Open f) = OptSessionCall.None
-sessionCall (Call.Media d) = OptSessionCall.Some (SessionCall.Media (d .now))
-sessionCall (Call.Repair d) = OptSessionCall.Some (SessionCall.Repair (d .now))
+sessionCall (Call.Media d) = OptSessionCall.Some (SessionCall.Media d)
+sessionCall (Call.Repair d) = OptSessionCall.Some (SessionCall.Repair d)
 sessionCall (Call.Poll now) = OptSessionCall.Some (SessionCall.Poll now)
 sessionCall (Call.PollNack now) = OptSessionCall.Some (SessionCall.PollNack now)
 sessionCall (Call.TimeoutReceive now) = OptSessionCall.Some (SessionCall.Reading (ReadingCall.TimeoutReceive now))

@@ -1,12 +1,14 @@
 // Calls of the queue, each with its answer's line put into a lent output from the place `at` on.
 ghost use mathlib.Core.Path.{_≡_};
+ghost use lib.ListN.{take};
 ghost use Rattle.model.specs.Calls as Calls;
 ghost use Rattle.model.specs.Contract.{stored};
 ghost use Rattle.trace.specs.Text.{output};
-ghost use Rattle.calls.specs.Answered.{Answered, OneLine, pollCall, nackCall, queueCall, sessionCall};
+ghost use Rattle.calls.specs.Answered.{Answered, OneLine, pollCall, nackCall, queueCall, sessionCall, sizeOf};
 use model::Session;
 use reading::ReadingCall;
 use trace::Call;
+use trace::Datagram;
 
 pub mod opening;
 pub mod reading;
@@ -14,10 +16,10 @@ pub mod reading;
 // The largest G (01, refusal 1).
 pub const MAX_GAPS: usize = 4096;
 
-// The calls of a trace that are made on a session, with their NOW. A datagram is lent beside them.
+// The calls of a trace that are made on a session, with their NOW. The bytes of a datagram stand beside them.
 pub enum SessionCall {
-    Media(u64),
-    Repair(u64),
+    Media(Datagram),
+    Repair(Datagram),
     Poll(u64),
     PollNack(u64),
     Reading(ReadingCall),
@@ -121,8 +123,8 @@ pub fn session_call(call: Call) -> OptSessionCall
     ensures { λ r. ⌜ r ≡ sessionCall call ⌝ }
 {
     let made = match call {
-        Call::Media(d) => SessionCall::Media(d.now),
-        Call::Repair(d) => SessionCall::Repair(d.now),
+        Call::Media(d) => SessionCall::Media(d),
+        Call::Repair(d) => SessionCall::Repair(d),
         Call::Poll(now) => SessionCall::Poll(now),
         Call::PollNack(now) => SessionCall::PollNack(now),
         Call::TimeoutReceive(now) => SessionCall::Reading(ReadingCall::TimeoutReceive(now)),
@@ -137,7 +139,31 @@ pub fn session_call(call: Call) -> OptSessionCall
     OptSessionCall::Some(made)
 }
 
-// The bytes are the datagram of a call that has one.
+// How many bytes the call's datagram has.
+fn datagram_size(call: SessionCall) -> usize
+    ensures { λ r. ⌜ r ≡ sizeOf call ⌝ }
+{
+    match call {
+        SessionCall::Media(d) => d.size,
+        SessionCall::Repair(d) => d.size,
+        SessionCall::Poll(_) => 0,
+        SessionCall::PollNack(_) => 0,
+        SessionCall::Reading(_) => 0,
+    }
+}
+
+// The call's datagram, which stands at the front of the bytes that the line was read into.
+pub fn datagram(call: SessionCall, bytes: &[u8]) -> &[u8]
+    ensures { λ r. ⌜ now r ≡ take (sizeOf call) (now (bytes .entry)) ⌝ }
+{
+    let size = datagram_size(call);
+    if bytes.len() < size {
+        return bytes;
+    }
+    &bytes[0..size]
+}
+
+// What is sent is the datagram of a call that has one.
 pub fn make(
     s: Session,
     entries: &mut [u64],
@@ -145,18 +171,18 @@ pub fn make(
     gaps: &mut [u64],
     remembered: &mut [u64],
     call: SessionCall,
-    bytes: &[u8],
+    sent: &[u8],
     out: &mut [u8],
     at: usize,
 ) -> Made
-    ensures { λ r. ⌜ Answered (queueCall call (bytes .entry .now)) (stored s (entries .entry .now) (payloads .entry .now) (gaps .entry .now) (remembered .entry .now)) (stored (r .session) (entries .exit .now) (payloads .exit .now) (gaps .exit .now) (remembered .exit .now)) (output (out .entry .now) at) (output (out .exit .now) (r .at)) ⌝ }
+    ensures { λ r. ⌜ Answered (queueCall call (sent .entry .now)) (stored s (entries .entry .now) (payloads .entry .now) (gaps .entry .now) (remembered .entry .now)) (stored (r .session) (entries .exit .now) (payloads .exit .now) (gaps .exit .now) (remembered .exit .now)) (output (out .entry .now) at) (output (out .exit .now) (r .at)) ⌝ }
 {
     match call {
-        SessionCall::Media(now) => {
-            media(s, entries, payloads, gaps, remembered, now, bytes, out, at)
+        SessionCall::Media(d) => {
+            media(s, entries, payloads, gaps, remembered, d.now, sent, out, at)
         }
-        SessionCall::Repair(now) => {
-            repair(s, entries, payloads, gaps, remembered, now, bytes, out, at)
+        SessionCall::Repair(d) => {
+            repair(s, entries, payloads, gaps, remembered, d.now, sent, out, at)
         }
         SessionCall::Poll(now) => poll(s, entries, payloads, gaps, remembered, now, out, at),
         SessionCall::PollNack(now) => {

@@ -196,15 +196,6 @@ fn other(
     }
 }
 
-// How many bytes the call's datagram has.
-fn datagram_size(call: Call) -> usize {
-    match call {
-        Call::Media(d) => d.size,
-        Call::Repair(d) => d.size,
-        _ => 0,
-    }
-}
-
 pub fn answer(
     held: Held,
     entries: &mut [u64],
@@ -219,7 +210,7 @@ pub fn answer(
     let OptSessionCall::Some(k) = calls::session_call(call) else {
         return other(held, entries, payloads, gaps, remembered, call, out, at);
     };
-    let size = lent(datagram_size(call), 1, bytes.len());
+    let datagram = calls::datagram(k, bytes);
     on_held(
         held,
         entries,
@@ -227,7 +218,7 @@ pub fn answer(
         gaps,
         remembered,
         k,
-        &bytes[0..size],
+        datagram,
         out,
         at,
     )
