@@ -1,16 +1,21 @@
 // The answers of docs/TRACE.md as lines of text, put into a lent buffer from a place on; each function answers the place behind its line.
 ghost use mathlib.Core.Path.{_≡_};
+ghost use mathlib.Core.List.{[]};
 ghost use lib.ListN.{take};
 ghost use Rattle.put.specs.Text.{output, put, field, hex};
+ghost use Rattle.poll.specs.Answers.{packetOf, pollAnswer, nackAnswer};
+ghost use Rattle.push.specs.Answers.{mediaAnswer, repairAnswer};
+ghost use Rattle.queue.specs.Answers.{openingAnswer, timeoutAnswer, statsAnswer, highestAnswer};
 ghost use Rattle.stats.specs.declared.OptRtxStats.the-variants as OptRtxStats;
-ghost use Rattle.answers.specs.Lines.{putAll, lineFeed, flagText};
-ghost use Rattle.answers.specs.Lines.{line as theLine, numberLine};
-ghost use Rattle.answers.specs.Calls.{refusedLine, mediaLine, repairLine, headerFields, packetLine, pollLine, afterLine, timeoutLine, figuresLine, statsLine, highestLine};
+ghost use Rattle.answers.specs.Lines.{putAll, lineFeed, flagText, line as theLine, numberLine};
+ghost use Rattle.answers.specs.Calls.{refusedLine, headerFields, packetLine, numberFields, nackLine, afterLine, figuresLine, answerLine, openingLine};
 use poll::HandedOut;
 use poll::PollAnswer;
+use poll::nack::NackAnswer;
 use push::MediaAnswer;
 use push::rtx::RepairAnswer;
 use queue::HighestAnswer;
+use queue::Opening;
 use queue::StatsAnswer;
 use queue::TimeoutAnswer;
 use rtp::opt::Opt;
@@ -48,8 +53,17 @@ pub fn refused(out: &mut [u8], at: usize, number: u64) -> usize
     number_line(out, at, b"refused", number)
 }
 
+pub fn opening(out: &mut [u8], at: usize, answer: Opening) -> usize
+    ensures { λ r. ⌜ output (now (out .exit)) r ≡ putAll (openingLine (openingAnswer answer)) (output (now (out .entry)) at) ⌝ }
+{
+    match answer {
+        Opening::Session(_) => line(out, at, b"opened"),
+        Opening::Refused(number) => refused(out, at, number),
+    }
+}
+
 pub fn media(out: &mut [u8], at: usize, answer: MediaAnswer) -> usize
-    ensures { λ r. ⌜ output (now (out .exit)) r ≡ putAll (mediaLine answer) (output (now (out .entry)) at) ⌝ }
+    ensures { λ r. ⌜ output (now (out .exit)) r ≡ putAll (answerLine (mediaAnswer answer) []) (output (now (out .entry)) at) ⌝ }
 {
     match answer {
         MediaAnswer::Queued => line(out, at, b"queued"),
@@ -59,7 +73,7 @@ pub fn media(out: &mut [u8], at: usize, answer: MediaAnswer) -> usize
 }
 
 pub fn repair(out: &mut [u8], at: usize, answer: RepairAnswer) -> usize
-    ensures { λ r. ⌜ output (now (out .exit)) r ≡ putAll (repairLine answer) (output (now (out .entry)) at) ⌝ }
+    ensures { λ r. ⌜ output (now (out .exit)) r ≡ putAll (answerLine (repairAnswer answer) []) (output (now (out .entry)) at) ⌝ }
 {
     match answer {
         RepairAnswer::Recovered => line(out, at, b"recovered"),
@@ -89,7 +103,7 @@ fn octets(out: &mut [u8], at: usize, bytes: &[u8], size: usize) -> usize
 }
 
 fn header(out: &mut [u8], at: usize, p: HandedOut) -> usize
-    ensures { λ r. ⌜ output (now (out .exit)) r ≡ putAll (headerFields p) (output (now (out .entry)) at) ⌝ }
+    ensures { λ r. ⌜ output (now (out .exit)) r ≡ putAll (headerFields (packetOf p)) (output (now (out .entry)) at) ⌝ }
 {
     let a = put::number(out, at, p.pt as u64);
     let b = put::number(out, a, p.sequence_number.0 as u64);
@@ -99,7 +113,7 @@ fn header(out: &mut [u8], at: usize, p: HandedOut) -> usize
 }
 
 fn packet(out: &mut [u8], at: usize, p: HandedOut, payload: &[u8]) -> usize
-    ensures { λ r. ⌜ output (now (out .exit)) r ≡ putAll (packetLine p (now (payload .entry))) (output (now (out .entry)) at) ⌝ }
+    ensures { λ r. ⌜ output (now (out .exit)) r ≡ putAll (packetLine (packetOf p) (now (payload .entry))) (output (now (out .entry)) at) ⌝ }
 {
     let arrival = p.received_at;
     let a = put::text(out, at, b"packet");
@@ -111,12 +125,58 @@ fn packet(out: &mut [u8], at: usize, p: HandedOut, payload: &[u8]) -> usize
 }
 
 pub fn poll(out: &mut [u8], at: usize, answer: PollAnswer, payload: &[u8]) -> usize
-    ensures { λ r. ⌜ output (now (out .exit)) r ≡ putAll (pollLine answer (now (payload .entry))) (output (now (out .entry)) at) ⌝ }
+    ensures { λ r. ⌜ output (now (out .exit)) r ≡ putAll (answerLine (pollAnswer answer) (now (payload .entry))) (output (now (out .entry)) at) ⌝ }
 {
     match answer {
         PollAnswer::Nothing => line(out, at, b"nothing"),
         PollAnswer::Packet(p) => packet(out, at, p, payload),
         PollAnswer::Refused(number) => refused(out, at, number),
+    }
+}
+
+fn wide(x: u16) -> u64
+    ensures { λ r. ⌜ r ≡ x ⌝ }
+{
+    x as u64
+}
+
+fn numbers(out: &mut [u8], at: usize, list: &[u16]) -> usize
+    ensures { λ r. ⌜ output (now (out .exit)) r ≡ putAll (numberFields (now (list .entry))) (output (now (out .entry)) at) ⌝ }
+{
+    let mut to = at;
+    let mut i = 0;
+    while i < list.len() {
+        to = put::number(out, to, wide(list[i]));
+        i += 1;
+    }
+    to
+}
+
+fn nack(out: &mut [u8], at: usize, list: &[u16]) -> usize
+    ensures { λ r. ⌜ output (now (out .exit)) r ≡ putAll (nackLine (now (list .entry))) (output (now (out .entry)) at) ⌝ }
+{
+    let a = put::text(out, at, b"nack");
+    let b = numbers(out, a, list);
+    end(out, b)
+}
+
+// The first `count` numbers, or all of them.
+fn first_numbers(out: &mut [u8], at: usize, list: &[u16], count: usize) -> usize
+    ensures { λ r. ⌜ output (now (out .exit)) r ≡ putAll (nackLine (take count (now (list .entry)))) (output (now (out .entry)) at) ⌝ }
+{
+    if list.len() < count {
+        return nack(out, at, list);
+    }
+    nack(out, at, &list[0..count])
+}
+
+pub fn poll_nack(out: &mut [u8], at: usize, answer: NackAnswer, list: &[u16]) -> usize
+    ensures { λ r. ⌜ output (now (out .exit)) r ≡ putAll (answerLine (nackAnswer answer) (now (list .entry))) (output (now (out .entry)) at) ⌝ }
+{
+    match answer {
+        NackAnswer::Nothing => line(out, at, b"nothing"),
+        NackAnswer::Numbers(count) => first_numbers(out, at, list, count),
+        NackAnswer::Refused(number) => refused(out, at, number),
     }
 }
 
@@ -130,7 +190,7 @@ fn after(out: &mut [u8], at: usize, o: Opt) -> usize
 }
 
 pub fn timeout(out: &mut [u8], at: usize, answer: TimeoutAnswer) -> usize
-    ensures { λ r. ⌜ output (now (out .exit)) r ≡ putAll (timeoutLine answer) (output (now (out .entry)) at) ⌝ }
+    ensures { λ r. ⌜ output (now (out .exit)) r ≡ putAll (answerLine (timeoutAnswer answer) []) (output (now (out .entry)) at) ⌝ }
 {
     match answer {
         TimeoutAnswer::Timeout(o) => after(out, at, o),
@@ -161,7 +221,7 @@ fn opt_figures(out: &mut [u8], at: usize, s: OptRtxStats) -> usize
 }
 
 pub fn rtx_stats(out: &mut [u8], at: usize, answer: StatsAnswer) -> usize
-    ensures { λ r. ⌜ output (now (out .exit)) r ≡ putAll (statsLine answer) (output (now (out .entry)) at) ⌝ }
+    ensures { λ r. ⌜ output (now (out .exit)) r ≡ putAll (answerLine (statsAnswer answer) []) (output (now (out .entry)) at) ⌝ }
 {
     match answer {
         StatsAnswer::Stats(s) => opt_figures(out, at, s),
@@ -170,7 +230,7 @@ pub fn rtx_stats(out: &mut [u8], at: usize, answer: StatsAnswer) -> usize
 }
 
 pub fn highest(out: &mut [u8], at: usize, answer: HighestAnswer) -> usize
-    ensures { λ r. ⌜ output (now (out .exit)) r ≡ putAll (highestLine answer) (output (now (out .entry)) at) ⌝ }
+    ensures { λ r. ⌜ output (now (out .exit)) r ≡ putAll (answerLine (highestAnswer answer) []) (output (now (out .entry)) at) ⌝ }
 {
     match answer {
         HighestAnswer::None => line(out, at, b"none"),

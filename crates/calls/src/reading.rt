@@ -1,12 +1,17 @@
 // The calls that leave the session as it is, whose answer is the place behind the line.
 ghost use Rattle.model.specs.Calls as Calls;
 ghost use Rattle.model.specs.Contract.{stored};
-ghost use Rattle.queue.specs.Answers.{timeoutAnswer, statsAnswer, highestAnswer};
 ghost use Rattle.put.specs.Text.{output};
-ghost use Rattle.answers.specs.Calls.{timeoutLine, statsLine, highestLine};
-ghost use Rattle.calls.specs.Answered.{Answered, alone};
+ghost use Rattle.calls.specs.Answered.{Answered, readingCall};
 use model::Session;
 use queue::reading;
+
+pub enum ReadingCall {
+    TimeoutReceive(u64),
+    TimeoutNack(u64),
+    RtxStats,
+    Highest,
+}
 
 pub fn timeout_receive(
     s: Session,
@@ -18,7 +23,7 @@ pub fn timeout_receive(
     out: &mut [u8],
     at: usize,
 ) -> usize
-    ensures { λ r. ⌜ Answered (Calls.timeoutReceive now) timeoutAnswer (alone timeoutLine) (stored s (entries .entry .now) (payloads .entry .now) (gaps .entry .now) (remembered .entry .now)) (stored s (entries .exit .now) (payloads .exit .now) (gaps .exit .now) (remembered .exit .now)) (output (out .entry .now) at) (output (out .exit .now) r) ⌝ }
+    ensures { λ r. ⌜ Answered (Calls.timeoutReceive now) (stored s (entries .entry .now) (payloads .entry .now) (gaps .entry .now) (remembered .entry .now)) (stored s (entries .exit .now) (payloads .exit .now) (gaps .exit .now) (remembered .exit .now)) (output (out .entry .now) at) (output (out .exit .now) r) ⌝ }
 {
     let a = reading::timeout_receive(s, entries, payloads, gaps, remembered, now);
     answers::timeout(out, at, a)
@@ -34,7 +39,7 @@ pub fn timeout_nack(
     out: &mut [u8],
     at: usize,
 ) -> usize
-    ensures { λ r. ⌜ Answered (Calls.timeoutNack now) timeoutAnswer (alone timeoutLine) (stored s (entries .entry .now) (payloads .entry .now) (gaps .entry .now) (remembered .entry .now)) (stored s (entries .exit .now) (payloads .exit .now) (gaps .exit .now) (remembered .exit .now)) (output (out .entry .now) at) (output (out .exit .now) r) ⌝ }
+    ensures { λ r. ⌜ Answered (Calls.timeoutNack now) (stored s (entries .entry .now) (payloads .entry .now) (gaps .entry .now) (remembered .entry .now)) (stored s (entries .exit .now) (payloads .exit .now) (gaps .exit .now) (remembered .exit .now)) (output (out .entry .now) at) (output (out .exit .now) r) ⌝ }
 {
     let a = reading::timeout_nack(s, entries, payloads, gaps, remembered, now);
     answers::timeout(out, at, a)
@@ -49,7 +54,7 @@ pub fn rtx_stats(
     out: &mut [u8],
     at: usize,
 ) -> usize
-    ensures { λ r. ⌜ Answered Calls.rtxStats statsAnswer (alone statsLine) (stored s (entries .entry .now) (payloads .entry .now) (gaps .entry .now) (remembered .entry .now)) (stored s (entries .exit .now) (payloads .exit .now) (gaps .exit .now) (remembered .exit .now)) (output (out .entry .now) at) (output (out .exit .now) r) ⌝ }
+    ensures { λ r. ⌜ Answered Calls.rtxStats (stored s (entries .entry .now) (payloads .entry .now) (gaps .entry .now) (remembered .entry .now)) (stored s (entries .exit .now) (payloads .exit .now) (gaps .exit .now) (remembered .exit .now)) (output (out .entry .now) at) (output (out .exit .now) r) ⌝ }
 {
     let a = reading::rtx_stats(s, entries, payloads, gaps, remembered);
     answers::rtx_stats(out, at, a)
@@ -64,8 +69,32 @@ pub fn highest(
     out: &mut [u8],
     at: usize,
 ) -> usize
-    ensures { λ r. ⌜ Answered Calls.highestReceived highestAnswer (alone highestLine) (stored s (entries .entry .now) (payloads .entry .now) (gaps .entry .now) (remembered .entry .now)) (stored s (entries .exit .now) (payloads .exit .now) (gaps .exit .now) (remembered .exit .now)) (output (out .entry .now) at) (output (out .exit .now) r) ⌝ }
+    ensures { λ r. ⌜ Answered Calls.highestReceived (stored s (entries .entry .now) (payloads .entry .now) (gaps .entry .now) (remembered .entry .now)) (stored s (entries .exit .now) (payloads .exit .now) (gaps .exit .now) (remembered .exit .now)) (output (out .entry .now) at) (output (out .exit .now) r) ⌝ }
 {
     let a = reading::highest_sequence_number_received(s, entries, payloads, gaps, remembered);
     answers::highest(out, at, a)
+}
+
+pub fn make(
+    s: Session,
+    entries: &mut [u64],
+    payloads: &mut [u8],
+    gaps: &mut [u64],
+    remembered: &mut [u64],
+    call: ReadingCall,
+    out: &mut [u8],
+    at: usize,
+) -> usize
+    ensures { λ r. ⌜ Answered (readingCall call) (stored s (entries .entry .now) (payloads .entry .now) (gaps .entry .now) (remembered .entry .now)) (stored s (entries .exit .now) (payloads .exit .now) (gaps .exit .now) (remembered .exit .now)) (output (out .entry .now) at) (output (out .exit .now) r) ⌝ }
+{
+    match call {
+        ReadingCall::TimeoutReceive(now) => {
+            timeout_receive(s, entries, payloads, gaps, remembered, now, out, at)
+        }
+        ReadingCall::TimeoutNack(now) => {
+            timeout_nack(s, entries, payloads, gaps, remembered, now, out, at)
+        }
+        ReadingCall::RtxStats => rtx_stats(s, entries, payloads, gaps, remembered, out, at),
+        ReadingCall::Highest => highest(s, entries, payloads, gaps, remembered, out, at),
+    }
 }

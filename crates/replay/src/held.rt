@@ -1,23 +1,44 @@
 // A line's call, made on the session that is held.
 ghost use Prim.Native.Nat.{_≤_};
 use crate::lists;
-use crate::opening;
-use crate::opening::OptConfig;
-use calls::Made;
-use calls::reading;
+use calls::MAX_GAPS;
+use calls::OptSessionCall;
+use calls::SessionCall;
+use calls::opening;
+use entries::ENTRY_WORDS;
+use entries::PAYLOAD_BYTES;
+use lost_nacked::MAX_LOST_NACKED;
+use lost_nacked::REMEMBERED_WORDS;
 use model::Session;
+use packet_gaps::GAP_WORDS;
 use queue::Opening;
 use trace::Call;
 use trace::OpenFields;
 
+// The largest D (01, refusal 1).
+const MAX_ENTRIES: usize = 1024;
+
+// Each one of D asks for two places of an entry.
+const D_WORDS: usize = 2 * ENTRY_WORDS;
+
+const D_BYTES: usize = 2 * PAYLOAD_BYTES;
+
 // Storage for the largest session.
-pub type Entries = [u64; 8192];
+pub const ENTRIES: usize = D_WORDS * MAX_ENTRIES;
 
-pub type Payloads = [u8; 655360];
+pub const PAYLOADS: usize = D_BYTES * MAX_ENTRIES;
 
-pub type Gaps = [u64; 16384];
+pub const GAPS: usize = GAP_WORDS * MAX_GAPS;
 
-pub type Remembered = [u64; 2048];
+pub const REMEMBERED: usize = REMEMBERED_WORDS * MAX_LOST_NACKED;
+
+pub type Entries = [u64; ENTRIES];
+
+pub type Payloads = [u8; PAYLOADS];
+
+pub type Gaps = [u64; GAPS];
+
+pub type Remembered = [u64; REMEMBERED];
 
 pub enum Held {
     None,
@@ -53,127 +74,27 @@ fn open(
     out: &mut [u8],
     at: usize,
 ) -> Step {
-    let OptConfig::Some(config) = opening::config_of(f) else {
-        let to = answers::refused(out, at, refusals::SETTINGS);
-        return Step {
-            held: before,
-            at: to,
-        };
-    };
     let d = f.max_entries as usize;
-    let g = f.max_gaps as usize;
-    let words = lent(d, 8, entries.len());
-    let octets = lent(d, 640, payloads.len());
-    let places = lent(g, 4, gaps.len());
-    match queue::open::open(
-        config,
+    let words = lent(d, D_WORDS, entries.len());
+    let octets = lent(d, D_BYTES, payloads.len());
+    let places = lent(f.max_gaps as usize, GAP_WORDS, gaps.len());
+    let opened = opening::open(
+        f,
         &mut entries[0..words],
         &mut payloads[0..octets],
         &mut gaps[0..places],
         remembered,
-    ) {
-        Opening::Session(session) => Step {
-            held: Held::Some(session),
-            at: answers::line(out, at, b"opened"),
-        },
-        Opening::Refused(number) => Step {
-            held: before,
-            at: answers::refused(out, at, number),
-        },
-    }
-}
-
-fn poll_nack(
-    s: Session,
-    entries: &mut [u64],
-    payloads: &mut [u8],
-    gaps: &mut [u64],
-    remembered: &mut [u64],
-    now: u64,
-    out: &mut [u8],
-    at: usize,
-) -> Made {
-    let mut numbers = [0u16; 4096];
-    let done = poll::nack::poll_nack(s, entries, payloads, gaps, remembered, now, &mut numbers);
-    let answer = done.answer;
-    let session = done.session;
-    let to = lists::poll_nack(out, at, answer, &numbers);
-    Made { session, at: to }
-}
-
-// The calls that leave the session as it is, whose answer is how many bytes of the output are filled.
-fn read(
-    s: Session,
-    entries: &mut [u64],
-    payloads: &mut [u8],
-    gaps: &mut [u64],
-    remembered: &mut [u64],
-    call: Call,
-    out: &mut [u8],
-    at: usize,
-) -> usize {
-    match call {
-        Call::TimeoutReceive(now) => {
-            reading::timeout_receive(s, entries, payloads, gaps, remembered, now, out, at)
-        }
-        Call::TimeoutNack(now) => {
-            reading::timeout_nack(s, entries, payloads, gaps, remembered, now, out, at)
-        }
-        Call::RtxStats => reading::rtx_stats(s, entries, payloads, gaps, remembered, out, at),
-        Call::Highest => reading::highest(s, entries, payloads, gaps, remembered, out, at),
-        _ => lists::state(out, at, s, entries, payloads, gaps, remembered),
-    }
-}
-
-// How many bytes the call's datagram has.
-fn datagram_size(call: Call) -> usize {
-    match call {
-        Call::Media(d) => d.size,
-        Call::Repair(d) => d.size,
-        _ => 0,
-    }
-}
-
-fn in_session(
-    s: Session,
-    entries: &mut [u64],
-    payloads: &mut [u8],
-    gaps: &mut [u64],
-    remembered: &mut [u64],
-    call: Call,
-    datagram: &[u8],
-    out: &mut [u8],
-    at: usize,
-) -> Made {
-    match call {
-        Call::Media(d) => calls::media(
-            s,
-            entries,
-            payloads,
-            gaps,
-            remembered,
-            d.now,
-            datagram,
-            out,
-            at,
-        ),
-        Call::Repair(d) => calls::repair(
-            s,
-            entries,
-            payloads,
-            gaps,
-            remembered,
-            d.now,
-            datagram,
-            out,
-            at,
-        ),
-        Call::Poll(now) => calls::poll(s, entries, payloads, gaps, remembered, now, out, at),
-        Call::PollNack(now) => poll_nack(s, entries, payloads, gaps, remembered, now, out, at),
-        _ => Made {
-            session: s,
-            at: read(s, entries, payloads, gaps, remembered, call, out, at),
-        },
+        out,
+        at,
+    );
+    let answer = opened.opening;
+    let held = match answer {
+        Opening::Session(session) => Held::Some(session),
+        Opening::Refused(_) => before,
+    };
+    Step {
+        held,
+        at: opened.at,
     }
 }
 
@@ -193,6 +114,10 @@ fn bounds(s: Session) -> Limits {
     }
 }
 
+fn no_session(out: &mut [u8], at: usize) -> usize {
+    answers::line(out, at, b"no session")
+}
+
 // A call on the session that is held, which is lent what its D and G ask for.
 fn on_held(
     held: Held,
@@ -200,28 +125,27 @@ fn on_held(
     payloads: &mut [u8],
     gaps: &mut [u64],
     remembered: &mut [u64],
-    call: Call,
-    bytes: &[u8],
+    call: SessionCall,
+    datagram: &[u8],
     out: &mut [u8],
     at: usize,
 ) -> Step {
     let Held::Some(s) = held else {
-        let to = answers::line(out, at, b"no session");
+        let to = no_session(out, at);
         return Step { held, at: to };
     };
     let most = bounds(s);
-    let words = lent(most.max_entries, 8, entries.len());
-    let octets = lent(most.max_entries, 640, payloads.len());
-    let places = lent(most.max_gaps, 4, gaps.len());
-    let size = lent(datagram_size(call), 1, bytes.len());
-    let made = in_session(
+    let words = lent(most.max_entries, D_WORDS, entries.len());
+    let octets = lent(most.max_entries, D_BYTES, payloads.len());
+    let places = lent(most.max_gaps, GAP_WORDS, gaps.len());
+    let made = calls::make(
         s,
         &mut entries[0..words],
         &mut payloads[0..octets],
         &mut gaps[0..places],
         remembered,
         call,
-        &bytes[0..size],
+        datagram,
         out,
         at,
     );
@@ -232,6 +156,46 @@ fn on_held(
     }
 }
 
+fn state(
+    held: Held,
+    entries: &[u64],
+    payloads: &[u8],
+    gaps: &[u64],
+    remembered: &[u64],
+    out: &mut [u8],
+    at: usize,
+) -> usize {
+    let Held::Some(s) = held else {
+        return no_session(out, at);
+    };
+    lists::state(out, at, s, entries, payloads, gaps, remembered)
+}
+
+// A line that is no call on a session, or `state`.
+fn other(
+    held: Held,
+    entries: &mut [u64],
+    payloads: &mut [u8],
+    gaps: &mut [u64],
+    remembered: &mut [u64],
+    call: Call,
+    out: &mut [u8],
+    at: usize,
+) -> Step {
+    match call {
+        Call::Open(f) => open(held, f, entries, payloads, gaps, remembered, out, at),
+        Call::PassedOver => Step { held, at },
+        Call::State => Step {
+            held,
+            at: state(held, entries, payloads, gaps, remembered, out, at),
+        },
+        _ => Step {
+            held,
+            at: answers::line(out, at, b"unreadable"),
+        },
+    }
+}
+
 pub fn answer(
     held: Held,
     entries: &mut [u64],
@@ -239,29 +203,23 @@ pub fn answer(
     gaps: &mut [u64],
     remembered: &mut [u64],
     call: Call,
-    bytes: &[u8; 2048],
+    bytes: &[u8],
     out: &mut [u8],
     at: usize,
 ) -> Step {
-    match call {
-        Call::Open(f) => open(held, f, entries, payloads, gaps, remembered, out, at),
-        Call::PassedOver => Step { held, at },
-        Call::Unreadable => unreadable(held, out, at),
-        _ => on_held(
-            held,
-            entries,
-            payloads,
-            gaps,
-            remembered,
-            call,
-            bytes,
-            out,
-            at,
-        ),
-    }
-}
-
-fn unreadable(held: Held, out: &mut [u8], at: usize) -> Step {
-    let to = answers::line(out, at, b"unreadable");
-    Step { held, at: to }
+    let OptSessionCall::Some(k) = calls::session_call(call) else {
+        return other(held, entries, payloads, gaps, remembered, call, out, at);
+    };
+    let datagram = calls::datagram(k, bytes);
+    on_held(
+        held,
+        entries,
+        payloads,
+        gaps,
+        remembered,
+        k,
+        datagram,
+        out,
+        at,
+    )
 }

@@ -10,7 +10,13 @@ use crate::output;
 use crate::output::Answers;
 use libc::STDIN_FILENO;
 
-type Line = [u8; 4096];
+// One byte more than the longest line that is read (docs/TRACE.md, "Lines").
+pub const LINE: usize = 4096;
+
+type Line = [u8; LINE];
+
+// As many bytes as the HEX of a line can be, and more.
+const DATAGRAM: usize = LINE / 2;
 
 // Puts a part of a line behind its first n bytes, as far as the buffer goes. How many stand there then.
 fn gather(line: &mut [u8], n: usize, part: &[u8]) -> usize {
@@ -42,7 +48,7 @@ fn answer(
         return Step { held, at: filled };
     }
     let at = output::room(out, filled);
-    let mut bytes = [0u8; 2048];
+    let mut bytes = [0u8; DATAGRAM];
     let call = trace::read(&line[0..n], &mut bytes);
     held::answer(
         held,

@@ -1,76 +1,63 @@
-// The lists of an answer, which may be longer than the output holds: a NACK's numbers, and the records of `state`, line by line.
+// The lines of `state`, which may be more than the output holds: it is written on the way.
 use crate::output;
+use entries::ENTRY_WORDS;
+use entries::PAYLOAD_BYTES;
+use lost_nacked::REMEMBERED_WORDS;
 use model::Session;
+use packet_gaps::GAP_WORDS;
 use poll::nack::NackAnswer;
 
-fn wide(x: u16) -> u64 {
-    x as u64
+enum List {
+    Entries,
+    Gaps,
+    Remembered,
 }
 
-fn nack(out: &mut [u8], at: usize, numbers: &[u16], count: usize) -> usize {
-    let mut to = put::text(out, at, b"nack");
-    let mut i = 0;
-    while i < count {
-        if numbers.len() <= i {
-            return answers::end(out, to);
-        }
-        let roomy = output::room(out, to);
-        to = put::number(out, roomy, wide(numbers[i]));
-        i += 1;
+fn entry(out: &mut [u8], at: usize, words: &[u64], bytes: &[u8], i: usize) -> usize {
+    if words.len() / ENTRY_WORDS <= i {
+        return at;
     }
-    answers::end(out, to)
+    if bytes.len() / PAYLOAD_BYTES <= i {
+        return at;
+    }
+    let e = entries::read(words, i);
+    let from = PAYLOAD_BYTES * i;
+    let to = from + PAYLOAD_BYTES;
+    answers::state::entry(out, at, e, &bytes[from..to])
 }
 
-pub fn poll_nack(out: &mut [u8], at: usize, answer: NackAnswer, numbers: &[u16]) -> usize {
-    match answer {
-        NackAnswer::Nothing => answers::line(out, at, b"nothing"),
-        NackAnswer::Numbers(count) => nack(out, at, numbers, count),
-        NackAnswer::Refused(number) => answers::refused(out, at, number),
+fn gap(out: &mut [u8], at: usize, words: &[u64], i: usize) -> usize {
+    if words.len() / GAP_WORDS <= i {
+        return at;
+    }
+    let g = packet_gaps::read(words, i);
+    answers::state::gap(out, at, g)
+}
+
+fn remembered(out: &mut [u8], at: usize, words: &[u64], i: usize) -> usize {
+    if words.len() / REMEMBERED_WORDS <= i {
+        return at;
+    }
+    let first = REMEMBERED_WORDS * i;
+    answers::state::remembered(out, at, words[first], words[first + 1])
+}
+
+// The record in place i of a list; the bytes are those of the entries.
+fn record(out: &mut [u8], at: usize, list: List, words: &[u64], bytes: &[u8], i: usize) -> usize {
+    match list {
+        List::Entries => entry(out, at, words, bytes, i),
+        List::Gaps => gap(out, at, words, i),
+        List::Remembered => remembered(out, at, words, i),
     }
 }
 
-fn entry_lines(out: &mut [u8], at: usize, words: &[u64], bytes: &[u8], n: usize) -> usize {
+// The first n records of a list.
+fn records(out: &mut [u8], at: usize, list: List, words: &[u64], bytes: &[u8], n: usize) -> usize {
     let mut to = at;
     let mut i = 0;
     while i < n {
-        if words.len() / 4 <= i {
-            return to;
-        }
-        if bytes.len() / 320 <= i {
-            return to;
-        }
         let roomy = output::room(out, to);
-        let e = entries::read(words, i);
-        to = answers::state::entry(out, roomy, e, &bytes[320 * i..320 * i + 320]);
-        i += 1;
-    }
-    to
-}
-
-fn gap_lines(out: &mut [u8], at: usize, words: &[u64], n: usize) -> usize {
-    let mut to = at;
-    let mut i = 0;
-    while i < n {
-        if words.len() / 4 <= i {
-            return to;
-        }
-        let roomy = output::room(out, to);
-        let g = packet_gaps::read(words, i);
-        to = answers::state::gap(out, roomy, g);
-        i += 1;
-    }
-    to
-}
-
-fn remembered_lines(out: &mut [u8], at: usize, words: &[u64], n: usize) -> usize {
-    let mut to = at;
-    let mut i = 0;
-    while i < n {
-        if words.len() / 2 <= i {
-            return to;
-        }
-        let roomy = output::room(out, to);
-        to = answers::state::remembered(out, roomy, words[2 * i], words[2 * i + 1]);
+        to = record(out, roomy, list, words, bytes, i);
         i += 1;
     }
     to
@@ -86,7 +73,7 @@ pub fn state(
     lost: &[u64],
 ) -> usize {
     let a = answers::state::summary(out, at, s);
-    let b = entry_lines(out, a, words, bytes, s.entries);
-    let c = gap_lines(out, b, gaps, s.gaps);
-    remembered_lines(out, c, lost, s.remembered)
+    let b = records(out, a, List::Entries, words, bytes, s.entries);
+    let c = records(out, b, List::Gaps, gaps, bytes, s.gaps);
+    records(out, c, List::Remembered, lost, bytes, s.remembered)
 }

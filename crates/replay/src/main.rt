@@ -5,15 +5,14 @@
 mod held;
 mod lines;
 mod lists;
-mod opening;
 mod output;
 
 fn main() {
-    let mut entries = [0u64; 8192];
-    let mut payloads = [0u8; 655360];
-    let mut gaps = [0u64; 16384];
-    let mut remembered = [0u64; 2048];
-    let mut line = [0u8; 4096];
+    let mut entries = [0u64; held::ENTRIES];
+    let mut payloads = [0u8; held::PAYLOADS];
+    let mut gaps = [0u64; held::GAPS];
+    let mut remembered = [0u64; held::REMEMBERED];
+    let mut line = [0u8; lines::LINE];
     let mut out = io::large_buffer();
     lines::run(
         &mut entries,

@@ -1,11 +1,12 @@
 // Answers are gathered in a lent buffer, of which `at` bytes are filled, and written in blocks.
+use calls::MAX_GAPS;
 use libc::STDOUT_FILENO;
 
 // A block of answers.
 pub type Answers = [u8; 65536];
 
-// More than any line of an answer has, that of a `nack` aside, whose numbers each make sure of their own room.
-const ROOM: usize = 1024;
+// The longest line of an answer: `nack`, a number of at most five digits and its blank for each of the largest G, and the line feed.
+const ROOM: usize = 4 + 6 * MAX_GAPS + 1;
 
 // Writes what is gathered.
 pub fn write(out: &[u8], at: usize) {

@@ -1,6 +1,7 @@
 -- `header` meets its contract, case by case.
 use Rattle.answers.specs.Calls.{headerFields}
 use Rattle.answers.specs.Lines.{putAll}
+use Rattle.poll.specs.Answers.{packetOf}
 use borrow.Author.Needs.{needs}
 use Rattle.answers.proofs.header.Statement.{statement}
 use Rattle.answers.proofs.header.Tie as tie
@@ -36,7 +37,7 @@ same-length : tie.Need-same-length
 same-length c = search needs
 
 returns : tie.Need-returns
-unfolding headerFields putAll
+unfolding headerFields packetOf putAll
 returns c = cc
 
 pub header-spec : {M : Type 1} → statement M

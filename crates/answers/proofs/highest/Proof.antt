@@ -1,6 +1,7 @@
 -- `highest` meets its contract, case by case.
-use Rattle.answers.specs.Calls.{highestLine}
+use Rattle.answers.specs.Calls.{answerLine, highestLine}
 use Rattle.answers.specs.Lines.{putAll}
+use Rattle.queue.specs.Answers.{highestAnswer}
 use borrow.Author.Needs.{needs}
 use Rattle.answers.proofs.highest.Statement.{statement}
 use Rattle.answers.proofs.highest.Tie as tie
@@ -33,21 +34,21 @@ same-length : tie.Need-same-length
 same-length c = search needs
 
 returns : tie.Need-returns
-unfolding highestLine putAll
+unfolding answerLine highestLine highestAnswer putAll
 returns c = rw (c .before .before .before .before .before .enum-told .given .1) (c .before .before .line .ensures)
 
 same-length-2 : tie.Need-same-length-2
 same-length-2 c = search needs
 
 returns-2 : tie.Need-returns-2
-unfolding highestLine putAll
+unfolding answerLine highestLine highestAnswer putAll
 returns-2 c = rw (c .before .before .before .before .before .before .answer .given .1) (c .before .before .number-line .ensures)
 
 same-length-3 : tie.Need-same-length-3
 same-length-3 c = search needs
 
 returns-3 : tie.Need-returns-3
-unfolding highestLine putAll
+unfolding answerLine highestLine highestAnswer putAll
 returns-3 c = rw (c .before .before .before .before .before .answer2 .given .1) (c .before .before .refused .ensures)
 
 pub highest-spec : {M : Type 1} → statement M

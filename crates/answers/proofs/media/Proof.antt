@@ -1,6 +1,7 @@
 -- `media` meets its contract, case by case.
-use Rattle.answers.specs.Calls.{mediaLine}
+use Rattle.answers.specs.Calls.{answerLine}
 use Rattle.answers.specs.Lines.{putAll}
+use Rattle.push.specs.Answers.{mediaAnswer}
 use borrow.Author.Needs.{needs}
 use Rattle.answers.proofs.media.Statement.{statement}
 use Rattle.answers.proofs.media.Tie as tie
@@ -33,21 +34,21 @@ same-length : tie.Need-same-length
 same-length c = search needs
 
 returns : tie.Need-returns
-unfolding mediaLine putAll
+unfolding answerLine mediaAnswer putAll
 returns c = rw (c .before .before .before .before .before .enum-told .given .1) (c .before .before .line .ensures)
 
 same-length-2 : tie.Need-same-length-2
 same-length-2 c = search needs
 
 returns-2 : tie.Need-returns-2
-unfolding mediaLine putAll
+unfolding answerLine mediaAnswer putAll
 returns-2 c = rw (c .before .before .before .before .before .enum-told2 .given .1) (c .before .before .line2 .ensures)
 
 same-length-3 : tie.Need-same-length-3
 same-length-3 c = search needs
 
 returns-3 : tie.Need-returns-3
-unfolding mediaLine putAll
+unfolding answerLine mediaAnswer putAll
 returns-3 c = rw (c .before .before .before .before .before .answer .given .1) (c .before .before .refused .ensures)
 
 pub media-spec : {M : Type 1} → statement M

@@ -2,6 +2,7 @@
 use Rattle.answers.proofs.Parts.{put-append}
 use Rattle.answers.specs.Calls.{packetLine}
 use Rattle.answers.specs.Lines.{putAll}
+use Rattle.poll.specs.Answers.{packetOf}
 use borrow.Author.Needs.{needs}
 use Rattle.answers.proofs.packet.Statement.{statement}
 use Rattle.answers.proofs.packet.Tie as tie
@@ -31,7 +32,7 @@ same-length : tie.Need-same-length
 same-length c = search needs
 
 returns : tie.Need-returns
-unfolding packetLine putAll
+unfolding packetLine packetOf putAll
 returns c = rw put-append cc
 
 pub packet-spec : {M : Type 1} → statement M

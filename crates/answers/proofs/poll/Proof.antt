@@ -1,6 +1,7 @@
 -- `poll` meets its contract, case by case.
-use Rattle.answers.specs.Calls.{pollLine}
+use Rattle.answers.specs.Calls.{answerLine}
 use Rattle.answers.specs.Lines.{putAll}
+use Rattle.poll.specs.Answers.{pollAnswer}
 use borrow.Author.Needs.{needs}
 use Rattle.answers.proofs.poll.Statement.{statement}
 use Rattle.answers.proofs.poll.Tie as tie
@@ -30,21 +31,21 @@ same-length : tie.Need-same-length
 same-length c = search needs
 
 returns : tie.Need-returns
-unfolding pollLine putAll
+unfolding answerLine pollAnswer putAll
 returns c = rw (c .before .before .before .before .before .enum-told .given .1) (c .before .before .line .ensures)
 
 same-length-2 : tie.Need-same-length-2
 same-length-2 c = search needs
 
 returns-2 : tie.Need-returns-2
-unfolding pollLine putAll
+unfolding answerLine pollAnswer putAll
 returns-2 c = rw (c .before .before .before .before .before .answer .given .1) (c .before .before .packet .ensures)
 
 same-length-3 : tie.Need-same-length-3
 same-length-3 c = search needs
 
 returns-3 : tie.Need-returns-3
-unfolding pollLine putAll
+unfolding answerLine pollAnswer putAll
 returns-3 c = rw (c .before .before .before .before .before .answer2 .given .1) (c .before .before .refused .ensures)
 
 pub poll-spec : {M : Type 1} → statement M

@@ -1,6 +1,7 @@
 -- `repair` meets its contract, case by case.
-use Rattle.answers.specs.Calls.{repairLine}
+use Rattle.answers.specs.Calls.{answerLine, fateLine}
 use Rattle.answers.specs.Lines.{putAll}
+use Rattle.push.specs.Answers.{repairAnswer}
 use borrow.Author.Needs.{needs}
 use Rattle.answers.proofs.repair.Statement.{statement}
 use Rattle.answers.proofs.repair.Tie as tie
@@ -42,28 +43,28 @@ same-length : tie.Need-same-length
 same-length c = search needs
 
 returns : tie.Need-returns
-unfolding repairLine putAll
+unfolding answerLine fateLine repairAnswer putAll
 returns c = rw (c .before .before .before .before .before .enum-told .given .1) (c .before .before .line .ensures)
 
 same-length-2 : tie.Need-same-length-2
 same-length-2 c = search needs
 
 returns-2 : tie.Need-returns-2
-unfolding repairLine putAll
+unfolding answerLine fateLine repairAnswer putAll
 returns-2 c = rw (c .before .before .before .before .before .enum-told2 .given .1) (c .before .before .line2 .ensures)
 
 same-length-3 : tie.Need-same-length-3
 same-length-3 c = search needs
 
 returns-3 : tie.Need-returns-3
-unfolding repairLine putAll
+unfolding answerLine fateLine repairAnswer putAll
 returns-3 c = rw (c .before .before .before .before .before .enum-told3 .given .1) (c .before .before .line3 .ensures)
 
 same-length-4 : tie.Need-same-length-4
 same-length-4 c = search needs
 
 returns-4 : tie.Need-returns-4
-unfolding repairLine putAll
+unfolding answerLine fateLine repairAnswer putAll
 returns-4 c = rw (c .before .before .before .before .before .answer .given .1) (c .before .before .refused .ensures)
 
 pub repair-spec : {M : Type 1} → statement M

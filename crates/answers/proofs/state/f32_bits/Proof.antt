@@ -1,5 +1,5 @@
 -- `f32_bits` meets its contract: what equals itself is no NaN.
-use Rattle.answers.proofs.Floats.{real}
+use Rattle.float_laws.proofs.NoNan.{real}
 use Rattle.answers.specs.State.{bits32Text}
 use borrow.Author.Needs.{needs}
 use Rattle.answers.proofs.state.f32_bits.Statement.{statement}

@@ -1,0 +1,16 @@
+-- `mode_of` meets its contract: by the number.
+use borrow.Author.Tests.{eq-eqb, ne-eqb}
+use Rattle.calls.specs.Opening.{modeOf}
+use Rattle.calls.proofs.opening.mode_of.Statement.{statement}
+use Rattle.calls.proofs.opening.mode_of.Tie as tie
+
+returns : tie.Need-returns
+unfolding modeOf
+returns c = rw (eq-eqb _ _ (c .if1 .taken))
+
+returns-2 : tie.Need-returns-2
+unfolding modeOf
+returns-2 c = rw (ne-eqb _ _ (c .if1 .left))
+
+pub mode-of-spec : {M : Type 1} → statement M
+mode-of-spec = tie.close (tie.spec returns returns-2)
