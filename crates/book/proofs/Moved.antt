@@ -17,7 +17,7 @@ use Rattle.model.specs.Records.{Entry, Gap, State, entryNumbers, gapNumbers, re
 use Rattle.model.specs.Rules.{is, Place, placeOf, waits, MAX-GAP-SIZE}
 use Rattle.model.specs.Push as P
 use Rattle.model.specs.Push.{insertSorted, mediaEntry, mediaPlace, heard, countDropped, countReceived, afterQueued, afterDropped, frontOut, afterMedia, Fate, tooLate, recovered, redundant, repairEntry, repairFate, afterFate, afterRepair}
-use Rattle.model.specs.Poll.{givenUp, lostBelow, lose, countLost, drained, ready, handsOut, front, handOut, afterPoll, afterPollNack}
+use Rattle.model.specs.Poll.{givenUp, lostBelow, lose, countLost, drained, ready, handsOut, goingOut, handOut, afterPoll, afterPollNack}
 use Rattle.model.specs.Poll as Q
 use Rattle.model.specs.Calls.{Call, media, repair, poll, pollNack, timeoutReceive, timeoutNack, rtxStats, highestReceived, queued, dropped, packetOf, handed, nackAnswer, taken, answered}
 use Rattle.model.proofs.Lists.{by-cases, Each, each-first, each-imp, each-insert}
@@ -56,7 +56,7 @@ media-keeps c now n p b =
     (λ t. (refl, refl))
 
 repair-keeps : (now n : ℕ) (b : Book) → Keeps b (onRepair now n b)
-unfolding onRepair recover B.tooLate Keeps
+unfolding onRepair recover B.notMissing Keeps
 repair-keeps now n b = by-cases (Keeps b) (some? (is n) (b .missing)) (λ t. (refl, refl)) (λ t. (refl, refl))
 
 still : {s s′ : State} {b b′ : Book} → Keeps b b′ → s′ .queue .counters .lost ≡ s .queue .counters .lost → Moved s b s′ b′ []
@@ -99,9 +99,9 @@ module _ (now : ℕ) (s : State) (b : Book) where
   drained-moves = record { handed = sym (append-nil (b .handed)); newly = gapNumbers gone; lost = refl; counted = rw length-map refl }
 
   out-moves : (es : List Entry)
-      → Moved s (beside s b) (handOut (front now s es) (drained now s)) (cond (out? (front now s es)) (takeLowest (s .queue .config) (entryNumbers es) (giveUp (s .queue .config) (beside s b))) (giveUp (s .queue .config) (beside s b)))
-      (entryNumbers (front now s es))
-  unfolding handOut front handsOut out? drained giveUp takeLowest lose countLost
+      → Moved s (beside s b) (handOut (goingOut now s es) (drained now s)) (cond (out? (goingOut now s es)) (takeLowest (s .queue .config) (entryNumbers es) (giveUp (s .queue .config) (beside s b))) (giveUp (s .queue .config) (beside s b)))
+      (entryNumbers (goingOut now s es))
+  unfolding handOut goingOut handsOut out? drained giveUp takeLowest lose countLost
   out-moves [] = drained-moves
   out-moves (x ∷ es) =
       by-cases goes (ready (s .queue) (s .queue .config .settings .mode) (s .queue .last) now x)
@@ -126,7 +126,7 @@ module _ (now : ℕ) (s : State) (b : Book) where
 unfoldable pub outOf : Call → State → List ℕ
 outOf (media now d) s = []
 outOf (repair now d) s = []
-outOf (poll now lent) s = entryNumbers (front now s (s .entries))
+outOf (poll now lent) s = entryNumbers (goingOut now s (s .entries))
 outOf (pollNack now lent) s = []
 outOf (timeoutReceive now) s = []
 outOf (timeoutNack now) s = []
@@ -138,8 +138,8 @@ unfolding given
 given-media true = refl
 given-media false = refl
 
-given-poll : (now : ℕ) (s : State) (es : List Entry) → given (handed (s .queue) (front now s es)) ≡ map (λ (n : ℕ). n % 2 ^ 16) (entryNumbers (front now s es))
-unfolding given handed front handsOut packetOf
+given-poll : (now : ℕ) (s : State) (es : List Entry) → given (handed (s .queue) (goingOut now s es)) ≡ map (λ (n : ℕ). n % 2 ^ 16) (entryNumbers (goingOut now s es))
+unfolding given handed goingOut handsOut packetOf
 given-poll now s [] = refl
 given-poll now s (x ∷ es) =
     by-cases (λ (l : List Entry). given (handed (s .queue) l) ≡ map (λ (n : ℕ). n % 2 ^ 16) (entryNumbers l)) (ready (s .queue) (s .queue .config .settings .mode) (s .queue .last) now x) (λ t. refl) (λ t. refl)
@@ -167,7 +167,7 @@ moved-beside : (k : Call) (s : State) (b : Book) → Moved s (beside s b) (taken
 unfolding taken answered hear enter outOf afterRepair afterPoll afterPollNack onPoll Q.nackAll B.nackAll Keeps
 moved-beside (media now d) s b = rw hear-media (still (media-keeps (s .queue .config) now _ _ (beside s b)) (media-counts now d s))
 moved-beside (repair now d) s b = still (repair-keeps now _ (beside s b)) (repair-counts now (repairEntry d (s .queue)) (repairFate s (repairEntry d (s .queue) .number)) s)
-moved-beside (poll now lent) s b = rw (hear-poll (s .queue) (front now s (s .entries))) (out-moves now s b (s .entries))
+moved-beside (poll now lent) s b = rw (hear-poll (s .queue) (goingOut now s (s .entries))) (out-moves now s b (s .entries))
 moved-beside (pollNack now lent) s b =
     let m = drained-moves now s b in
     rw hear-nack (record { handed = m .handed; newly = m .newly; lost = m .lost; counted = m .counted })
@@ -218,8 +218,8 @@ module _ (s : State) (out : List ℕ) (l : ListsOf s) (past : PastOf (s .queue .
   repair-past now x recovered = past
   repair-past now x redundant = past
 
-  poll-past : (now : ℕ) (es : List Entry) → Each Above es → PastOf mode (out ++ entryNumbers (front now s es)) (handOut (front now s es) (drained now s))
-  unfolding front handsOut handOut drained lose returnedOf
+  poll-past : (now : ℕ) (es : List Entry) → Each Above es → PastOf mode (out ++ entryNumbers (goingOut now s es)) (handOut (goingOut now s es) (drained now s))
+  unfolding goingOut handsOut handOut drained lose returnedOf
   poll-past now [] t = rw append-nil past
   poll-past now (x ∷ xs) t =
       by-cases goes (ready (s .queue) mode (s .queue .last) now x)
@@ -275,7 +275,7 @@ media-forgets c now n b =
     goes x = (x .forgotten ≡ b .forgotten) ⊎ Forgets c now n b
 
 repair-forgets : (now n : ℕ) (b : Book) → onRepair now n b .forgotten ≡ b .forgotten
-unfolding onRepair recover B.tooLate
+unfolding onRepair recover B.notMissing
 repair-forgets now n b = by-cases (λ (x : Book). x .forgotten ≡ b .forgotten) (some? (is n) (b .missing)) (λ t. refl) (λ t. refl)
 
 poll-forgets : (c : Config) (out : Bool) (b : Book) → onPoll c out b .forgotten ≡ b .forgotten

@@ -24,12 +24,12 @@ use Rattle.model.specs.Rules.{extended, is, Place, placeOf, waits, instantOf, s
 use Rattle.model.specs.Push as P
 use Rattle.model.specs.Push.{passed, insertSorted, extendedNumber, mediaEntry, heard, lastAfter, afterQueued, afterDropped, frontOut, afterMedia, repairEntry, repairFate, afterFate, afterRepair}
 use Rattle.model.specs.Poll as Q
-use Rattle.model.specs.Poll.{drained, lose, handsOut, front, ready, handOut, afterPoll, afterPollNack}
+use Rattle.model.specs.Poll.{drained, lose, handsOut, goingOut, ready, handOut, afterPoll, afterPollNack}
 use Rattle.model.specs.Calls.{Call, media, repair, poll, pollNack, timeoutReceive, timeoutNack, rtxStats, highestReceived, queued, dropped, nackAnswer, handed, taken, answered}
 use Rattle.model.proofs.Lists.{by-cases}
 use Rattle.book.specs.Sorted.{putIn}
 use Rattle.book.specs.Book as B
-use Rattle.book.specs.Book.{accepted, Span, none, fromTo, Book, spanAfter, arrive, pushOut, onMedia, recover, tooLate, onRepair, giveUp, takeLowest, onPoll, enter}
+use Rattle.book.specs.Book.{accepted, Span, none, fromTo, Book, spanAfter, arrive, pushOut, onMedia, recover, notMissing, onRepair, giveUp, takeLowest, onPoll, enter}
 use Rattle.book.specs.Claim.{hear}
 use Rattle.model.proofs.Sound.{ListsOf, ahead-to}
 use Rattle.book.proofs.Count.{either}
@@ -143,8 +143,8 @@ module _ (now : ℕ) (s : State) (b : Book) (e : highestOf (s .queue .last) ≡ 
   same-drained = record { config = refl; entries = refl; gaps = refl; highest = e; estimate = refl; remembered = refl }
 
   same-out : (es : List Entry) → s .entries ≡ es
-      → Same (s .queue .config) (handOut (front now s es) (drained now s)) (cond (out? (front now s es)) (takeLowest (s .queue .config) (entryNumbers es) (giveUp (s .queue .config) (beside s b))) (giveUp (s .queue .config) (beside s b)))
-  unfolding handOut front handsOut out? drained giveUp takeLowest lose
+      → Same (s .queue .config) (handOut (goingOut now s es) (drained now s)) (cond (out? (goingOut now s es)) (takeLowest (s .queue .config) (entryNumbers es) (giveUp (s .queue .config) (beside s b))) (giveUp (s .queue .config) (beside s b)))
+  unfolding handOut goingOut handsOut out? drained giveUp takeLowest lose
   same-out [] same = same-drained
   same-out (x ∷ es) same =
       by-cases goes (ready (s .queue) (s .queue .config .settings .mode) (s .queue .last) now x)
@@ -173,7 +173,7 @@ module _ (now : ℕ) (s : State) (b : Book) (e : highestOf (s .queue .last) ≡ 
   returned = returnedOf (s .queue .returned)
 
   same-repair : Past mode returned out (s .remembered) → (x : Entry) → Same (s .queue .config) (afterFate now x (repairFate s (x .number)) s) (onRepair now (x .number) (beside s b))
-  unfolding afterFate repairFate onRepair recover tooLate instantOf sampledAt Rtx.recordInTime Rtx.recordRedundant Rtx.recordTooLate
+  unfolding afterFate repairFate onRepair recover notMissing instantOf sampledAt Rtx.recordInTime Rtx.recordRedundant Rtx.recordTooLate
   same-repair p x = go (either (some? (is (x .number)) (s .gaps))) (either (passed mode returned (x .number)))
     where
       go : T (some? (is (x .number)) (s .gaps)) ⊎ T (not (some? (is (x .number)) (s .gaps))) → T (passed mode returned (x .number)) ⊎ T (not (passed mode returned (x .number)))
@@ -219,7 +219,7 @@ module _ (s : State) (b : Book) (e : highestOf (s .queue .last) ≡ B.highest (b
   unfolding taken answered hear enter afterPoll afterPollNack onPoll
   same-beside-taken (media now d) out p = rw hear-media (same-media now d)
   same-beside-taken (repair now d) out p = same-afterRepair now d out p
-  same-beside-taken (poll now lent) out p = rw (hear-poll (s .queue) (front now s (s .entries))) (same-out now s b e (s .entries) refl)
+  same-beside-taken (poll now lent) out p = rw (hear-poll (s .queue) (goingOut now s (s .entries))) (same-out now s b e (s .entries) refl)
   same-beside-taken (pollNack now lent) out p = rw hear-nack (same-nackAll now (same-drained now s b e))
   same-beside-taken (timeoutReceive now) out p = same-beside s b e
   same-beside-taken (timeoutNack now) out p = same-beside s b e

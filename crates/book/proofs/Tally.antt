@@ -15,7 +15,7 @@ use Rattle.model.specs.Rules.{is, gapsBelow, Place, first, near, far, fills, pl
 use Rattle.model.specs.Poll.{givenUp, lostBelow}
 use Rattle.model.specs.Calls.{Call, media, repair, poll, pollNack, timeoutReceive, timeoutNack, rtxStats, highestReceived}
 use Rattle.model.proofs.Lists.{by-cases}
-use Rattle.book.specs.Book.{Heard, refused, accepted, Span, none, fromTo, highest, Book, empty, spanAfter, forgottenBy, arrive, pushOut, overfull, withinDepth, onMedia, recover, tooLate, onRepair, giveUp, takeLowest, onPoll, nackAll, read, enter, allOf, arrived}
+use Rattle.book.specs.Book.{Heard, refused, accepted, Span, none, fromTo, highest, Book, empty, spanAfter, forgottenBy, arrive, pushOut, overfull, withinDepth, onMedia, recover, notMissing, onRepair, giveUp, takeLowest, onPoll, nackAll, read, enter, allOf, arrived}
 use Rattle.book.proofs.Count.{same, count, count-append, count-putIn, count-one, count-cons, count-nil, following-append, count-following-le}
 use Rattle.book.proofs.Gaps.{numbers-append, numbers-fresh, numbers-nackDue, count-below, count-given-up, count-lost-below, some-counted, count-without}
 
@@ -184,7 +184,7 @@ tally-media c now n b (fromTo f h) e t =
     arrives p = Tally (cond (waits p) (withinDepth (c .settings .«max_entries») (arrive now n p b)) b)
 
 tally-repair : (now n : ℕ) (b : Book) → Tally b → Tally (onRepair now n b)
-unfolding onRepair recover tooLate total arrived
+unfolding onRepair recover notMissing total arrived
 tally-repair now n b t =
     by-cases Tally (some? (is n) (b .missing))
     (λ m.

@@ -127,8 +127,8 @@ recover now n b =
     }
 
 -- a remembered number gives a sample; any other does nothing
-unfoldable pub tooLate : ℕ → ℕ → Book → Book
-tooLate now n b =
+unfoldable pub notMissing : ℕ → ℕ → Book → Book
+notMissing now n b =
     record {
       span = b .span;
       waiting = b .waiting;
@@ -141,7 +141,7 @@ tooLate now n b =
     }
 
 unfoldable pub onRepair : ℕ → ℕ → Book → Book
-onRepair now n b = cond (some? (is n) (b .missing)) (recover now n b) (tooLate now n b)
+onRepair now n b = cond (some? (is n) (b .missing)) (recover now n b) (notMissing now n b)
 
 -- ---- `poll` and `poll_nack`
 

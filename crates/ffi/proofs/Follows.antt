@@ -10,7 +10,7 @@ use Rattle.model.specs.declared.Session.{Session}
 use Rattle.model.specs.Records.{Entry, State, newState}
 use Rattle.model.specs.Rules.{waits}
 use Rattle.model.specs.Push.{mediaEntry, mediaPlace}
-use Rattle.model.specs.Poll.{front, nackNumbers}
+use Rattle.model.specs.Poll.{goingOut, nackNumbers}
 use Rattle.model.specs.Storage.{Storage, Stored, parse, write}
 use Rattle.model.specs.Calls as Calls
 use Rattle.model.specs.Calls.{Call, handed, nackAnswer, taken, answered}
@@ -44,7 +44,7 @@ no-refusal : (c : Call) (s : State) → refusalIn (answered c s) ≡ None
 unfolding answered refusalIn
 no-refusal (Calls.media now d) s = one-of-two (waits (mediaPlace s (mediaEntry now d (s .queue) .number)))
 no-refusal (Calls.repair now d) s = refl
-no-refusal (Calls.poll now out) s = no-refusal-handed (s .queue) (front now s (s .entries))
+no-refusal (Calls.poll now out) s = no-refusal-handed (s .queue) (goingOut now s (s .entries))
 no-refusal (Calls.pollNack now out) s = no-refusal-nack (nackNumbers now s)
 no-refusal (Calls.timeoutReceive now) s = refl
 no-refusal (Calls.timeoutNack now) s = refl

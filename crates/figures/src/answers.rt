@@ -25,7 +25,7 @@ fn put_opt(o: Opt) {
     }
 }
 
-pub fn signed(negative: u64, ns: u64) {
+pub(crate) fn signed(negative: u64, ns: u64) {
     if LARGEST < ns {
         line::put_none();
         return;
@@ -38,28 +38,28 @@ pub fn signed(negative: u64, ns: u64) {
     }
 }
 
-pub fn nanos(x: f64) {
+pub(crate) fn nanos(x: f64) {
     match durations::from_secs_f64(x) {
         FromSecs::Nanos(n) => line::put(n),
         FromSecs::Refused => line::put_none(),
     }
 }
 
-pub fn received(loss: u64) {
+pub(crate) fn received(loss: u64) {
     let p = PacketLoss {
         loss: line::f32_of(loss),
     };
     line::put_f32(p.record_received().get());
 }
 
-pub fn lost(loss: u64, n: u64) {
+pub(crate) fn lost(loss: u64, n: u64) {
     let p = PacketLoss {
         loss: line::f32_of(loss),
     };
     line::put_f32(p.record_lost(n).get());
 }
 
-pub fn jitter(rate: u64, x: u64, now: u64, timestamp: u64, last: u64, last_timestamp: u64) {
+pub(crate) fn jitter(rate: u64, x: u64, now: u64, timestamp: u64, last: u64, last_timestamp: u64) {
     let clock_rate = (rate % 4294967296) as u32;
     if clock_rate == 0 {
         line::put_none();
@@ -88,16 +88,16 @@ fn put_rtt(e: RtxRtt) {
     line::put(e.variation);
 }
 
-pub fn first_sample(sample: u64) {
+pub(crate) fn first_sample(sample: u64) {
     put_rtt(RtxRtt::from_first_sample(sample));
 }
 
-pub fn sample(srtt: u64, variation: u64, sample: u64) {
+pub(crate) fn sample(srtt: u64, variation: u64, sample: u64) {
     let e = RtxRtt { srtt, variation };
     put_rtt(e.with_sample(sample));
 }
 
-pub fn resend_delay(srtt: u64, variation: u64) {
+pub(crate) fn resend_delay(srtt: u64, variation: u64) {
     let e = RtxRtt { srtt, variation };
     if e.in_range() {
         line::put(e.nack_resend_delay());
@@ -106,7 +106,7 @@ pub fn resend_delay(srtt: u64, variation: u64) {
     }
 }
 
-pub fn timings(initial: u64, default: u64, estimate: u64, srtt: u64, variation: u64) {
+pub(crate) fn timings(initial: u64, default: u64, estimate: u64, srtt: u64, variation: u64) {
     let s = Settings {
         mode: RtpInboundQueueMode::Passthrough,
         clock_rate: 8000,
@@ -132,7 +132,14 @@ pub fn timings(initial: u64, default: u64, estimate: u64, srtt: u64, variation: 
     }
 }
 
-pub fn stats(in_time: u64, too_late: u64, redundant: u64, bytes: u64, size: u64, sample: u64) {
+pub(crate) fn stats(
+    in_time: u64,
+    too_late: u64,
+    redundant: u64,
+    bytes: u64,
+    size: u64,
+    sample: u64,
+) {
     let s = RtxState {
         rtt: OptRtt::None,
         received_in_time: in_time,
@@ -161,7 +168,7 @@ fn held(instant: u64, timestamp: u64, rate: u64, delay: u64, now: u64) -> bool
         & (now <= LARGEST)
 }
 
-pub fn limit(last: u64, timestamp: u64, rate: u64, delay: u64, now: u64) {
+pub(crate) fn limit(last: u64, timestamp: u64, rate: u64, delay: u64, now: u64) {
     if held(last, timestamp, rate, delay, now) {
         let t = ExtendedRtpTimestamp(timestamp);
         put_opt(handout::max_timestamp(last, t, rate as u32, delay, now));
@@ -170,7 +177,7 @@ pub fn limit(last: u64, timestamp: u64, rate: u64, delay: u64, now: u64) {
     }
 }
 
-pub fn timeout(last: u64, timestamp: u64, earliest: u64, rate: u64, delay: u64, now: u64) {
+pub(crate) fn timeout(last: u64, timestamp: u64, earliest: u64, rate: u64, delay: u64, now: u64) {
     if LARGEST < earliest {
         line::put_none();
         return;

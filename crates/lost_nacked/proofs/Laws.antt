@@ -9,9 +9,10 @@ use lib.Dec.{eqb, leb}
 use lib.ListN.{length, take, drop, getD, replicate, drop-of-length-le}
 use borrow.Author.Tests.{eq-eqb, ne-eqb, le-leb, lt-leb}
 use Rattle.words.specs.Words.{over, padded, cut}
-use Rattle.words.specs.Blocks.{laid, recordsOf}
+use Rattle.words.specs.Blocks.{laid}
 use Rattle.words.proofs.Blocked.{word-at}
 use Rattle.words.proofs.Records.{tidied-laid, record-at, holds-cut}
+use Rattle.words.proofs.Forms.{recordsOf}
 use Rattle.rtp.specs.declared.opt.Opt.the-variants.{None, Some}
 use Rattle.durations.specs.Seconds.{largest}
 use Rattle.model.specs.Lists.{keep, leading, every?}

@@ -10,9 +10,10 @@ use lib.ListN.{length, take, drop, getD, replicate, length-append, length-map, l
 use lib.Seq.{take-all, drop-nil, drop-append-le, drop-append-add}
 use borrow.Author.Tests.{leb-true, leb-false, eq-eqb, ne-eqb}
 use Rattle.words.specs.Words.{over, written, cut}
-use Rattle.words.specs.Blocks.{laid, recordsOf}
+use Rattle.words.specs.Blocks.{laid}
 use Rattle.words.proofs.Lists.{map-append, map-drop}
 use Rattle.words.proofs.Records.{records-laid, holds-length, holds-drop, holds-pushed}
+use Rattle.words.proofs.Forms.{recordsOf}
 use Rattle.model.specs.Lists.{keep}
 use Rattle.model.specs.Records.{Gap, Remembered}
 use Rattle.model.specs.Rules.{once, MAX-LOST-NACKED, latest, remember, rememberedAfter}

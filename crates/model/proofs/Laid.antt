@@ -10,7 +10,7 @@ use lib.Dec.{leb, eqb}
 use lib.ListN.{length, length-replicate}
 use borrow.Author.Tests.{eq-eqb, leb-true}
 use Rattle.words.specs.Words.{padded}
-use Rattle.words.specs.Blocks.{blocks, flat, Even, recordsOf, laid}
+use Rattle.words.specs.Blocks.{blocks, flat, laid}
 use Rattle.words.proofs.Over.{over-all}
 use Rattle.words.proofs.Moves.{length-padded}
 use Rattle.words.proofs.Padded.{take-padded}
@@ -18,6 +18,7 @@ use Rattle.words.proofs.Lists.{spelled}
 use Rattle.words.proofs.Records as Records
 use Rattle.words.proofs.Records.{Holds, holds-wide, Coded, even-wide, length-laid, blocks-laid, records-laid, length-records}
 use Rattle.words.proofs.Ordered.{and-left, and-right}
+use Rattle.words.proofs.Forms.{Even, recordsOf}
 use Rattle.rtp.specs.declared.opt.Opt.{Opt}
 use Rattle.rtp.specs.declared.opt.Opt.the-variants.{None, Some}
 use Rattle.model.specs.Records.{Entry, Gap, Remembered, State}

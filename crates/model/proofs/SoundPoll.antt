@@ -15,7 +15,7 @@ use Rattle.config.specs.declared.RtpInboundQueueMode.{RtpInboundQueueMode}
 use Rattle.config.specs.declared.RtpInboundQueueMode.the-variants.{Passthrough, SortedQueue}
 use Rattle.model.specs.Records.{Entry, Gap, Remembered, State, returnedOf}
 use Rattle.model.specs.Rules.{MAX-LOST-NACKED, below, gapsBelow, gapsFrom, due, nacked, nackedIfDue, tried, latest, remember, rememberedAfter}
-use Rattle.model.specs.Poll.{timingsOf, countLost, lose, givenUp, notGivenUp, drained, ready, handsOut, front, lostBelow, lostUnder, leftFrom, handOut, afterPoll, nackAll, afterPollNack}
+use Rattle.model.specs.Poll.{timingsOf, countLost, lose, givenUp, notGivenUp, drained, ready, handsOut, goingOut, lostBelow, lostUnder, leftFrom, handOut, afterPoll, nackAll, afterPollNack}
 use Rattle.model.specs.Table.{lostWith, pollRefusal, nacksRefusal, pollNackRefusal}
 use Rattle.model.proofs.Lists.{by-cases, Each, none, each-first, each-imp, each-append, each-drop, each-keep, each-trailing, each-map, Rising, rising-keep, rising-trailing, length-keep, length-trailing}
 use Rattle.model.proofs.Sound.{Ahead, GapIn, Apart, RememberedIn, Sound}
@@ -135,8 +135,8 @@ nothing-sound : (now : ℕ) (s : State) → Sound s → s .queue .clock ≤ now 
 unfolding lostWith lostUnder
 nothing-sound now s h later-now fits = drained-sound now s h later-now (omega (arith, length-append (givenUp (s .queue .config .settings) (s .queue .config .settings .mode) (s .gaps)) []))
 
-front-sound : (now : ℕ) (s : State) → Sound s → s .queue .clock ≤ now → (es : List Entry) → s .entries ≡ es → s .queue .counters .lost + length (lostWith now s (front now s es)) ≤ largest → Sound (handOut (front now s es) (drained now s))
-unfolding front handsOut lostUnder lostWith handOut drained lose countLost
+front-sound : (now : ℕ) (s : State) → Sound s → s .queue .clock ≤ now → (es : List Entry) → s .entries ≡ es → s .queue .counters .lost + length (lostWith now s (goingOut now s es)) ≤ largest → Sound (handOut (goingOut now s es) (drained now s))
+unfolding goingOut handsOut lostUnder lostWith handOut drained lose countLost
 front-sound now s h later-now [] at = nothing-sound now s h later-now
 front-sound now s h later-now (x ∷ xs) at =
     by-cases P (ready (s .queue) (s .queue .config .settings .mode) (s .queue .last) now x)

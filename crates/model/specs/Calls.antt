@@ -14,7 +14,7 @@ use Rattle.model.specs.declared.Queue.{Queue}
 use Rattle.model.specs.Records.{Entry, State, highestOf}
 use Rattle.model.specs.Rules.{Place, waits}
 use Rattle.model.specs.Push.{mediaEntry, mediaPlace, afterMedia, Fate, repairEntry, repairFate, afterRepair}
-use Rattle.model.specs.Poll.{front, afterPoll, nackNumbers, afterPollNack, receiveTimeout, timingsOf, nackTimeout, figures}
+use Rattle.model.specs.Poll.{goingOut, afterPoll, nackNumbers, afterPollNack, receiveTimeout, timingsOf, nackTimeout, repairFigures}
 
 -- A call with its own arguments; `now` is the first. The last argument of `poll` and `pollNack` is the lent output.
 pub data Call : Type 0 where
@@ -87,11 +87,11 @@ unfoldable pub answered : Call → State → Answer
 unfolding placedAnswer
 answered (media now d) s = placedAnswer (mediaPlace s (mediaEntry now d (s .queue) .number))
 answered (repair now d) s = repaired (repairFate s (repairEntry d (s .queue) .number))
-answered (poll now out) s = handed (s .queue) (front now s (s .entries))
+answered (poll now out) s = handed (s .queue) (goingOut now s (s .entries))
 answered (pollNack now out) s = nackAnswer (nackNumbers now s)
 answered (timeoutReceive now) s = timeout (receiveTimeout (s .queue .config .settings .mode) (s .queue .config .settings) (s .queue .last) (s .entries) now)
 answered (timeoutNack now) s = timeout (nackTimeout (timingsOf (s .queue)) now (s .gaps))
-answered rtxStats s = stats (figures (s .queue))
+answered rtxStats s = stats (repairFigures (s .queue))
 answered highestReceived s = highest (highestOf (s .queue .last))
 
 -- ---- the lent output
@@ -115,7 +115,7 @@ outputOf highestReceived = []
 unfoldable pub outputAfter : Call → State → List ℕ
 outputAfter (media now d) s = []
 outputAfter (repair now d) s = []
-outputAfter (poll now out) s = over (payloadOut (front now s (s .entries))) out
+outputAfter (poll now out) s = over (payloadOut (goingOut now s (s .entries))) out
 outputAfter (pollNack now out) s = over (nackNumbers now s) out
 outputAfter (timeoutReceive now) s = []
 outputAfter (timeoutNack now) s = []

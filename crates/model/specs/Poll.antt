@@ -78,8 +78,8 @@ handsOut now q [] = false
 handsOut now q (e ∷ es) = ready q (q .config .settings .mode) (q .last) now e
 
 -- the entry that goes out, if one does
-unfoldable pub front : ℕ → State → List Entry → List Entry
-front now s es = cond (handsOut now (s .queue) es) (take 1 es) []
+unfoldable pub goingOut : ℕ → State → List Entry → List Entry
+goingOut now s es = cond (handsOut now (s .queue) es) (take 1 es) []
 
 -- "Gaps below the one handed out become lost" in sorted mode
 unfoldable pub lostBelow : RtpInboundQueueMode → ℕ → List Gap → List Gap
@@ -109,7 +109,7 @@ handOut (e ∷ es) s =
     }
 
 unfoldable pub afterPoll : ℕ → State → State
-afterPoll now s = handOut (front now s (s .entries)) (drained now s)
+afterPoll now s = handOut (goingOut now s (s .entries)) (drained now s)
 
 -- ---- `poll_nack`
 
@@ -146,5 +146,5 @@ unfoldable pub nackTimeout : NackTimings → ℕ → List Gap → Opt
 nackTimeout t now [] = None
 nackTimeout t now (g ∷ gs) = optMin (Some (dueAt t g - now)) (nackTimeout t now gs)
 
-unfoldable pub figures : Queue → OptRtxStats
-figures q = cond (q .config .senders .«has_rtx») (OptRtxStats.Some (rtxStats (q .rtx))) OptRtxStats.None
+unfoldable pub repairFigures : Queue → OptRtxStats
+repairFigures q = cond (q .config .senders .«has_rtx») (OptRtxStats.Some (rtxStats (q .rtx))) OptRtxStats.None

@@ -21,7 +21,7 @@ use Rattle.model.specs.Lists.{some?}
 use Rattle.model.specs.Records.{Entry, Gap, State}
 use Rattle.model.specs.Rules.{Place, first, near, far, fills, other, waits, full}
 use Rattle.model.specs.Push.{mediaEntry, mediaPlace, afterQueued, overfull, Fate, tooLate, recovered, redundant, repairEntry, repairFate}
-use Rattle.model.specs.Poll.{givenUp, drained, front, lostUnder, dueGaps}
+use Rattle.model.specs.Poll.{givenUp, drained, goingOut, lostUnder, dueGaps}
 use Rattle.model.specs.Valid.{sound}
 use Rattle.model.specs.Storage.{Storage, Stored, lengthsFit, entryPlaces, parse}
 use Rattle.model.specs.Calls.{Call, media, repair, poll, pollNack, timeoutReceive, timeoutNack, rtxStats, highestReceived}
@@ -145,7 +145,7 @@ lostWith now s es =
 unfoldable pub pollRefusal : ℕ → List ℕ → State → ℕ
 pollRefusal now out s =
     orElse (outputRefusal LARGEST-PAYLOAD out)
-    (orElse (clockRefusal (s .queue) now) (countRefusal ((s .queue .counters .lost + length (lostWith now s (front now s (s .entries)))) ∷ [])))
+    (orElse (clockRefusal (s .queue) now) (countRefusal ((s .queue .counters .lost + length (lostWith now s (goingOut now s (s .entries)))) ∷ [])))
 
 -- 14 of `poll_nack`: the numbers lost, then a NACK count
 unfoldable pub nacksRefusal : ℕ → Queue → List Gap → ℕ

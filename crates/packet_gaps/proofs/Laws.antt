@@ -10,11 +10,12 @@ use lib.ListN.{length, take, drop, getD, replicate, length-map, List·getD-map}
 use lib.Seq.{length-take-le}
 use borrow.Author.Tests.{ltb-true, ltb-false, leb-true, leb-false, lt-ltb, le-ltb, ne-eqb}
 use Rattle.words.specs.Words.{over, cut}
-use Rattle.words.specs.Blocks.{firsts, recordsOf, laid}
-use Rattle.words.specs.Order.{ascends, member, rank}
+use Rattle.words.specs.Blocks.{firsts, laid}
+use Rattle.words.specs.Order.{ascends, rank}
 use Rattle.words.proofs.Blocked.{word-at, length-firsts, first-at}
 use Rattle.words.proofs.Records.{Holds, record-at, records-firsts, holds-cut, holds-drop}
 use Rattle.words.proofs.Ordered.{and-left, and-right, ascends-lt, ascends-tail, rank-le, member-rank, member-past}
+use Rattle.words.proofs.Forms.{recordsOf, member}
 use Rattle.durations.specs.Seconds.{largest}
 use Rattle.config.specs.declared.NackTimings.{NackTimings}
 use Rattle.model.specs.Lists.{keep, some?, every?}

@@ -8,10 +8,11 @@ use lib.Dec.{T, leb}
 use lib.ListN.{length, take, drop, length-map}
 use lib.Seq.{length-take-le}
 use borrow.Author.Tests.{leb-true, le-leb}
-use Rattle.words.specs.Blocks.{blocks, recordsOf, laid}
+use Rattle.words.specs.Blocks.{blocks, laid}
 use Rattle.words.proofs.Records.{records-laid, holds-length}
 use Rattle.words.specs.Order.{ascends, rank}
 use Rattle.words.proofs.Ordered.{and-left, and-right, rank-le}
+use Rattle.words.proofs.Forms.{recordsOf}
 use Rattle.durations.specs.Seconds.{largest}
 use Rattle.rtx_state.specs.declared.OptRtt.{OptRtt}
 use Rattle.rtx_state.specs.declared.OptRtt.the-variants as OptRtt

@@ -8,7 +8,7 @@ use lib.ListN.{length, take, drop}
 use Rattle.words.specs.Blocks.{blocks}
 use Rattle.model.specs.declared.Queue.{Queue}
 use Rattle.model.specs.Records.{Entry, State}
-use Rattle.model.specs.Poll.{ready, handsOut, front}
+use Rattle.model.specs.Poll.{ready, handsOut, goingOut}
 use Rattle.model.specs.Storage.{ENTRY-WORDS, PAYLOAD-BYTES, entryOf, entriesOf}
 
 module _ (now : ℕ) (q : Queue) (words payloads : List ℕ) where
@@ -23,8 +23,8 @@ module _ (now : ℕ) (q : Queue) (words payloads : List ℕ) where
   hands-first (suc n) h = refl
 
 module _ (now : ℕ) (s : State) where
-  pub front-is : (es : List Entry) (b : Bool) → b ≡ handsOut now (s .queue) es → front now s es ≡ cond b (take 1 es) []
-  unfolding front
+  pub front-is : (es : List Entry) (b : Bool) → b ≡ handsOut now (s .queue) es → goingOut now s es ≡ cond b (take 1 es) []
+  unfolding goingOut
   front-is es b e = rw e
 
   -- one goes out, so there is one

@@ -10,7 +10,7 @@ use Rattle.config.specs.declared.Settings.{Settings}
 use Rattle.config.specs.declared.RtpInboundQueueMode.{RtpInboundQueueMode}
 use Rattle.config.specs.declared.RtpInboundQueueMode.the-variants.{Passthrough, SortedQueue}
 use Rattle.model.specs.Records.{Entry, Gap, State, gapNumbers}
-use Rattle.model.specs.Poll.{givenUp, notGivenUp, drained, handsOut, front, lostBelow, lostUnder}
+use Rattle.model.specs.Poll.{givenUp, notGivenUp, drained, handsOut, goingOut, lostBelow, lostUnder}
 use Rattle.model.specs.Table.{lostWith}
 use Rattle.poll.specs.declared.Due.{Due}
 use Rattle.poll.specs.Steps.{dueFor}
@@ -48,10 +48,10 @@ module _ (now : ℕ) (s : State) where
   -- ---- 14
 
   module _ (d : Due) (ed : d ≡ dueFor now s) where
-    pub due-counts : d .given + d .lost ≡ length (lostWith now s (front now s (s .entries)))
+    pub due-counts : d .given + d .lost ≡ length (lostWith now s (goingOut now s (s .entries)))
     unfolding dueFor lostWith
     due-counts = rw ed (sym (length-append (givenUp set (set .mode) (s .gaps)) _))
 
     pub due-few : ascends (gapNumbers (s .gaps)) ≡ true → d .given + d .lost ≤ length (s .gaps)
     unfolding dueFor drained
-    due-few a = rw ed (both-le set (set .mode) (front now s (s .entries)) (s .gaps) a)
+    due-few a = rw ed (both-le set (set .mode) (goingOut now s (s .entries)) (s .gaps) a)

@@ -16,7 +16,7 @@ use Rattle.rtp_packet.specs.Datagram.{LARGEST-PAYLOAD}
 use Rattle.config.specs.Valid.{settingsValid}
 use Rattle.model.specs.declared.Session.{Session}
 use Rattle.model.specs.Records.{Entry, gapNumbers}
-use Rattle.model.specs.Poll.{lose, givenUp, notGivenUp, drained, handsOut, front, lostUnder, handOut, afterPoll}
+use Rattle.model.specs.Poll.{lose, givenUp, notGivenUp, drained, handsOut, goingOut, lostUnder, handOut, afterPoll}
 use Rattle.model.specs.Valid.{lastSound}
 use Rattle.model.specs.Storage.{Stored, ENTRY-WORDS, PAYLOAD-BYTES, GAP-WORDS, entryOf, entriesOf, gapsOf, gapWords, parse, write}
 use Rattle.model.specs.Calls.{Answer, poll, nothing, refused, taken, answered, outputOf, outputAfter, handed, packetOf, payloadOut}
@@ -96,7 +96,7 @@ module _ (now : ℕ) (m : Stored) (h : Settled m) (due : Due) (ed : due ≡ dueF
       is-lost =
           let set = m .session .queue .config .settings in
           let before = gapsOf (m .storage .gaps) (m .session .gaps) in
-          let out-is : front now (parse m) (parse m .entries) ≡ firstOf m ∷ [] = front-is now (parse m) (parse m .entries) (due .«goes_out») eb ∙ rw z first in
+          let out-is : goingOut now (parse m) (parse m .entries) ≡ firstOf m ∷ [] = front-is now (parse m) (parse m .entries) (due .«goes_out») eb ∙ rw z first in
           let left : gapsOf g (length (notGivenUp set (set .mode) before)) ≡ notGivenUp set (set .mode) before = gaps-left (m .session) (m .storage .gaps) g (holding m h .gaps-in .room) eg in
           ap (λ (d : Due). d .lost) ed ∙ rw (out-is, first-after, es, left)
 
@@ -126,7 +126,7 @@ module _ (now : ℕ) (m : Stored) (h : Settled m) (due : Due) (ed : due ≡ dueF
 module _ (now : ℕ) (m : Stored) (out : List ℕ) where
   -- 14
   abbrev counts : ℕ
-  counts = countRefusal ((m .session .queue .counters .lost + length (lostWith now (parse m) (front now (parse m) (parse m .entries)))) ∷ [])
+  counts = countRefusal ((m .session .queue .counters .lost + length (lostWith now (parse m) (goingOut now (parse m) (parse m .entries)))) ∷ [])
 
   checks : callRefusal (poll now out) (parse m) ≡ orElse (outputRefusal LARGEST-PAYLOAD out) (orElse (clockRefusal (m .session .queue) now) counts)
   unfolding callRefusal pollRefusal parse

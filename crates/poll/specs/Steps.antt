@@ -11,7 +11,7 @@ use Rattle.model.specs.declared.Session.{Session}
 use Rattle.model.specs.Records.{Gap, State, gapNumbers}
 use Rattle.model.specs.Rules.{MAX-LOST-NACKED, full}
 use Rattle.model.specs.Lists.{some?, every?}
-use Rattle.model.specs.Poll.{givenUp, notGivenUp, drainedQueue, drained, handsOut, front, lostUnder, timingsOf, dueGaps}
+use Rattle.model.specs.Poll.{givenUp, notGivenUp, drainedQueue, drained, handsOut, goingOut, lostUnder, timingsOf, dueGaps}
 use Rattle.model.specs.Storage.{Storage, Stored, REMEMBERED-WORDS, entryWords, payloadBytes, gapWords, rememberedWords, gapsOf, write}
 use Rattle.packet_gaps.specs.Gaps.{GapsIn, instantsFit, Small}
 use Rattle.entries.specs.Entries.{EntriesIn}
@@ -47,7 +47,7 @@ drainedSession now s gaps =
 unfoldable pub dueFor : ℕ → State → Due
 dueFor now s =
     let set = s .queue .config .settings in
-    record { given = length (givenUp set (set .mode) (s .gaps)); «goes_out» = handsOut now (s .queue) (s .entries); lost = length (lostUnder (set .mode) (front now s (s .entries)) (drained now s .gaps)) }
+    record { given = length (givenUp set (set .mode) (s .gaps)); «goes_out» = handsOut now (s .queue) (s .entries); lost = length (lostUnder (set .mode) (goingOut now s (s .entries)) (drained now s .gaps)) }
 
 -- each gap can be NACKed that is due by these timings, once the first ones are given up
 pub record Nacking (now : ℕ) (s : Session) (gaps : List ℕ) (given : ℕ) (timings : NackTimings) : Type 0 where

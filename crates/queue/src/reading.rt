@@ -121,7 +121,7 @@ pub fn timeout_nack(
 }
 
 fn figures(q: Queue) -> OptRtxStats
-    ensures { λ r. ⌜ r ≡ Poll.figures q ⌝ }
+    ensures { λ r. ⌜ r ≡ Poll.repairFigures q ⌝ }
 {
     let config = q.config;
     let rtx = q.rtx;

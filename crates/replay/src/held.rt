@@ -196,7 +196,7 @@ fn other(
     }
 }
 
-pub fn answer(
+pub(crate) fn answer(
     held: Held,
     entries: &mut [u64],
     payloads: &mut [u8],

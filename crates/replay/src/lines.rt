@@ -152,7 +152,7 @@ fn next(
 }
 
 // Every block of input.
-pub fn run(
+pub(crate) fn run(
     entries: &mut Entries,
     payloads: &mut Payloads,
     gaps: &mut Gaps,

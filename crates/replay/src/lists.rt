@@ -63,7 +63,7 @@ fn records(out: &mut [u8], at: usize, list: List, words: &[u64], bytes: &[u8], n
     to
 }
 
-pub fn state(
+pub(crate) fn state(
     out: &mut [u8],
     at: usize,
     s: Session,

@@ -9,14 +9,14 @@ pub type Answers = [u8; 65536];
 const ROOM: usize = 4 + 6 * MAX_GAPS + 1;
 
 // Writes what is gathered.
-pub fn write(out: &[u8], at: usize) {
+pub(crate) fn write(out: &[u8], at: usize) {
     if at <= out.len() {
         io::write_all(STDOUT_FILENO, &out[0..at]);
     }
 }
 
 // Makes room for a line: the place to go on at.
-pub fn room(out: &[u8], at: usize) -> usize {
+pub(crate) fn room(out: &[u8], at: usize) -> usize {
     if out.len() < ROOM {
         return at;
     }

@@ -8,7 +8,11 @@ use native.Mathlib.Omega.{arith}
 use native.Mathlib.Numerals.{add-one}
 use lib.Dec.{eqb}
 use borrow.Author.Tests.{eqb-true, eqb-false}
-use Rattle.rtp_packet.specs.Header.{byte, AllBytes, bigEndian}
+use Rattle.rtp_packet.specs.Header.{byte, bigEndian}
+
+-- what is true of every slice of bytes
+abbrev pub AllBytes : List ℕ → Type 0
+AllBytes d = (i : ℕ) → byte d i < 256
 
 pub bigEndian-next : (n i : ℕ) (d : List ℕ) → bigEndian (n + 1) i d ≡ bigEndian n i d * 256 + byte d (i + n)
 unfolding bigEndian

@@ -12,16 +12,12 @@
 -- A byte past the end reads 0. `datagramRefusal` turns back each datagram that ends within its header.
 use mathlib.Core.Bool.{Bool, cond}
 use mathlib.Core.List.{List}
-use Prim.Native.Nat.{ℕ, zero, suc, _+_, _-_, _*_, _/_, _%_, _^_, _<_}
+use Prim.Native.Nat.{ℕ, zero, suc, _+_, _-_, _*_, _/_, _%_, _^_}
 use lib.Dec.{eqb}
 use lib.ListN.{length, getD, take, drop}
 
 abbrev pub byte : List ℕ → ℕ → ℕ
 byte d i = getD d i 0
-
--- what is true of every slice of bytes
-abbrev pub AllBytes : List ℕ → Type 0
-AllBytes d = (i : ℕ) → byte d i < 256
 
 -- "network byte order, that is, most significant byte (octet) first" (section 4): the number in n bytes from byte i on
 unfoldable pub bigEndian : ℕ → ℕ → List ℕ → ℕ

@@ -1,4 +1,5 @@
-// The figures (009). `RtpInboundRemoteStats` belongs to sender reports and is left out.
+// The figures of repairs (009). `RtpInboundStats` is for a wrapper above the queue, which is not ported (01), and `RtpInboundRemoteStats` for
+// sender reports.
 use rtp::opt::Opt;
 
 // Retransmissions.
@@ -17,17 +18,4 @@ pub struct RtpInboundRtxStats {
 pub enum OptRtxStats {
     None,
     Some(RtpInboundRtxStats),
-}
-
-// The inbound stream.
-pub struct RtpInboundStats {
-    // Received and not dropped.
-    pub packets_received: u64,
-    pub bytes_received: u64,
-    pub packets_lost: u64,
-    // Of the original stream, from 0 to 1.
-    pub loss: f32,
-    // Nanoseconds.
-    pub jitter: u64,
-    pub rtx: OptRtxStats,
 }

@@ -1,7 +1,7 @@
 -- `tidy` meets its contract: a gap is read of its words and written as them again, so what stays is the gaps.
 use mathlib.Core.Path.{_∙_}
-use Rattle.words.specs.Blocks.{recordsOf}
 use Rattle.words.proofs.Records.{tidied-laid}
+use Rattle.words.proofs.Forms.{recordsOf}
 use Rattle.model.specs.Storage.{gapsOf}
 use Rattle.model.proofs.Laid.{gap-coded}
 use borrow.Author.Needs.{needs}

@@ -10,11 +10,11 @@ stats-requires : tie.Need-stats-requires
 stats-requires c κs = search needs
 
 returns : tie.Need-returns
-unfolding Poll.figures
+unfolding Poll.repairFigures
 returns c = rw (c .before .if1 .taken) (ap Some (c .stats .ensures))
 
 returns-2 : tie.Need-returns-2
-unfolding Poll.figures
+unfolding Poll.repairFigures
 returns-2 c = rw (c .if1 .left)
 
 pub figures-spec : {M : Type 1} → statement M
