@@ -5,7 +5,6 @@ use entries::PAYLOAD_BYTES;
 use lost_nacked::REMEMBERED_WORDS;
 use model::Session;
 use packet_gaps::GAP_WORDS;
-use poll::nack::NackAnswer;
 
 enum List {
     Entries,

@@ -3,7 +3,7 @@ use Rattle.answers.specs.Calls.{answerLine}
 use Rattle.answers.specs.Lines.{putAll}
 use Rattle.calls.specs.Answered.{OneLine}
 use Rattle.model.specs.Did.{Done}
-use mathlib.Core.Path.{_≡_, sym, ap, _∙_}
+use mathlib.Core.Path.{sym, ap, _∙_}
 use Rattle.calls.proofs.one_line.Statement.{statement}
 use Rattle.calls.proofs.one_line.Tie as tie
 
