@@ -53,8 +53,8 @@ gapSound b g = under (b .highest) (g .number) && (notPassed (b .passed) (g .numb
 abbrev pub gapsSound : Bounds → List Gap → Bool
 gapsSound b gaps = ascends (gapNumbers gaps) && every? (gapSound b) gaps
 
--- of an entry's fields and its payload's size; `missing` says that a gap has its number. The number is bounded by the highest, which is
--- bounded below.
+-- of an entry's fields and its payload's size; `missing` says that a gap has its number. The number is bounded by the highest, which
+-- `lastSound` keeps within 2^52 − 1.
 unfoldable pub fieldsSound : Bounds → Bool → ℕ → ℕ → Opt → ℕ → Bool
 fieldsSound b missing number timestamp arrival size =
     atMost (b .highest) number

@@ -56,7 +56,7 @@ pub const OUTPUT: u64 = 15;
 // record's clock rate not the setting's, jitter not from 0 to the clock rate, loss not from 0 to 1.
 pub const SESSION: u64 = 16;
 
-// The table's numbers in its order, so that a number changed here is refused here.
+// The table's numbers, ascending, so that a number changed here is refused here.
 pub fn numbers() -> [u64; 16]
     ensures { λ r. ⌜ r ≡ numbers ⌝ }
 {
