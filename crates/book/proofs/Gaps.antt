@@ -13,7 +13,7 @@ use Rattle.config.specs.declared.NackTimings.{NackTimings}
 use Rattle.model.specs.Lists.{keep, leading, trailing, some?}
 use Rattle.model.specs.Records.{Gap, gapNumbers}
 use Rattle.model.specs.Rules.{is, below, without, gapsBelow, gapsFrom, fresh, due, nacked, nackedIfDue, nackDue, tried}
-use Rattle.model.specs.Poll.{givenUp, notGivenUp, lostBelow, leftFrom}
+use Rattle.model.specs.Poll.{givenUpIn, notGivenUpIn, lostBelow, leftFrom}
 use Rattle.model.proofs.Lists.{by-cases, by-or, not-not, eqb-no}
 use Rattle.book.proofs.Count.{by-compare, same, same-yes, same-no, count, count-nil}
 
@@ -64,8 +64,8 @@ unfolding gapsBelow gapsFrom
 count-below w n l = count-keep (below w) n l
 
 -- those given up, and the others
-pub count-given-up : (set : Settings) (mode : RtpInboundQueueMode) (n : ℕ) (l : List Gap) → count n (gapNumbers (givenUp set mode l)) + count n (gapNumbers (notGivenUp set mode l)) ≡ count n (gapNumbers l)
-unfolding givenUp notGivenUp
+pub count-given-up : (set : Settings) (mode : RtpInboundQueueMode) (n : ℕ) (l : List Gap) → count n (gapNumbers (givenUpIn mode set l)) + count n (gapNumbers (notGivenUpIn mode set l)) ≡ count n (gapNumbers l)
+unfolding givenUpIn notGivenUpIn
 count-given-up set Passthrough n l = count-leading (tried (set .«max_nack_attempts»)) n l
 count-given-up set SortedQueue n l = omega (arith, count-nil n)
 

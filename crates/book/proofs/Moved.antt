@@ -4,7 +4,7 @@ use mathlib.Core.Path.{_≡_, refl, sym, _∙_}
 use mathlib.Core.Logic.{_⊎_, inl, inr}
 use mathlib.Core.Bool.{Bool, true, false, cond}
 use mathlib.Core.List.{List, [], _∷_, _++_, map, append-nil, append-assoc}
-use Prim.Native.Nat.{ℕ, _+_, _-_, _%_, _^_}
+use Prim.Native.Nat.{ℕ, zero, suc, _+_, _-_, _%_, _^_}
 use native.Mathlib.Omega.{arith}
 use lib.Dec.{leb, ltb, nleb→lt}
 use lib.ListN.{length, length-append, length-map}
@@ -92,7 +92,7 @@ repair-counts now x redundant s = refl
 
 module _ (now : ℕ) (s : State) (b : Book) where
   abbrev gone : List Gap
-  gone = givenUp (s .queue .config .settings) (s .queue .config .settings .mode) (s .gaps)
+  gone = givenUp (s .queue .config .settings) (s .gaps)
 
   drained-moves : Moved s (beside s b) (drained now s) (giveUp (s .queue .config) (beside s b)) []
   unfolding drained giveUp lose countLost
@@ -104,7 +104,7 @@ module _ (now : ℕ) (s : State) (b : Book) where
   unfolding handOut goingOut handsOut out? drained giveUp takeLowest lose countLost
   out-moves [] = drained-moves
   out-moves (x ∷ es) =
-      by-cases goes (ready (s .queue) (s .queue .config .settings .mode) (s .queue .last) now x)
+      by-cases goes (ready (s .queue) now (x .timestamp))
       (λ t.
       record {
         handed = refl;
@@ -142,12 +142,12 @@ given-poll : (now : ℕ) (s : State) (es : List Entry) → given (handed (s .que
 unfolding given handed goingOut handsOut packetOf
 given-poll now s [] = refl
 given-poll now s (x ∷ es) =
-    by-cases (λ (l : List Entry). given (handed (s .queue) l) ≡ map (λ (n : ℕ). n % 2 ^ 16) (entryNumbers l)) (ready (s .queue) (s .queue .config .settings .mode) (s .queue .last) now x) (λ t. refl) (λ t. refl)
+    by-cases (λ (l : List Entry). given (handed (s .queue) l) ≡ map (λ (n : ℕ). n % 2 ^ 16) (entryNumbers l)) (ready (s .queue) now (x .timestamp)) (λ t. refl) (λ t. refl)
 
-given-nack : (l : List ℕ) → given (nackAnswer l) ≡ []
+given-nack : (n : ℕ) → given (nackAnswer n) ≡ []
 unfolding given nackAnswer
-given-nack [] = refl
-given-nack (n ∷ ns) = refl
+given-nack zero = refl
+given-nack (suc n) = refl
 
 -- `poll` returns them as 16 bits
 pub given-out : (k : Call) (s : State) → given (answered k s) ≡ map (λ (n : ℕ). n % 2 ^ 16) (outOf k s)
@@ -155,7 +155,7 @@ unfolding answered outOf given
 given-out (media now d) s = given-media (waits (mediaPlace s (mediaEntry now d (s .queue) .number)))
 given-out (repair now d) s = refl
 given-out (poll now lent) s = given-poll now s (s .entries)
-given-out (pollNack now lent) s = given-nack (Q.nackNumbers now s)
+given-out (pollNack now lent) s = given-nack (length (Q.dueGaps now (s .queue) (s .gaps)))
 given-out (timeoutReceive now) s = refl
 given-out (timeoutNack now) s = refl
 given-out rtxStats s = refl
@@ -222,7 +222,7 @@ module _ (s : State) (out : List ℕ) (l : ListsOf s) (past : PastOf (s .queue .
   unfolding goingOut handsOut handOut drained lose returnedOf
   poll-past now [] t = rw append-nil past
   poll-past now (x ∷ xs) t =
-      by-cases goes (ready (s .queue) mode (s .queue .last) now x)
+      by-cases goes (ready (s .queue) now (x .timestamp))
       (λ u.
       past-hand mode (returnedOf (s .queue .returned)) (x .number) out (s .remembered) (s .queue .config .senders .«has_rtx») (drained now s .gaps)
       (each-first t) past)

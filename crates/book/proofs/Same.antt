@@ -4,7 +4,7 @@ use mathlib.Core.Path.{_≡_, refl, sym, ap, subst}
 use mathlib.Core.Logic.{_⊎_, inl, inr}
 use mathlib.Core.Bool.{Bool, true, false, cond, not}
 use mathlib.Core.List.{List, [], _∷_}
-use Prim.Native.Nat.{ℕ, _-_}
+use Prim.Native.Nat.{ℕ, zero, suc, _-_}
 use native.Mathlib.Omega.{arith}
 use lib.Dec.{T, T-not, leb, ltb}
 use lib.ListN.{length, length-map, drop}
@@ -132,10 +132,10 @@ unfolding hear handed out?
 hear-poll q [] = refl
 hear-poll q (x ∷ xs) = refl
 
-pub hear-nack : (l : List ℕ) → hear (nackAnswer l) ≡ accepted false
+pub hear-nack : (n : ℕ) → hear (nackAnswer n) ≡ accepted false
 unfolding hear nackAnswer
-hear-nack [] = refl
-hear-nack (n ∷ ns) = refl
+hear-nack zero = refl
+hear-nack (suc n) = refl
 
 module _ (now : ℕ) (s : State) (b : Book) (e : highestOf (s .queue .last) ≡ B.highest (b .span)) where
   same-drained : Same (s .queue .config) (drained now s) (giveUp (s .queue .config) (beside s b))
@@ -147,7 +147,7 @@ module _ (now : ℕ) (s : State) (b : Book) (e : highestOf (s .queue .last) ≡ 
   unfolding handOut goingOut handsOut out? drained giveUp takeLowest lose
   same-out [] same = same-drained
   same-out (x ∷ es) same =
-      by-cases goes (ready (s .queue) (s .queue .config .settings .mode) (s .queue .last) now x)
+      by-cases goes (ready (s .queue) now (x .timestamp))
       (λ t.
       record { config = refl; entries = ap (λ (l : List Entry). entryNumbers (drop 1 l)) same; gaps = refl; highest = e; estimate = refl; remembered = refl })
       (λ t. same-drained)

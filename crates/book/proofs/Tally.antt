@@ -151,7 +151,7 @@ tally-giveUp c b t =
     record {
       tally =
           λ k.
-          omega (arith, t .tally k, count-given-up (c .settings) (c .settings .mode) k (b .missing), count-append k (b .lost) (gapNumbers (givenUp (c .settings) (c .settings .mode) (b .missing))));
+          omega (arith, t .tally k, count-given-up (c .settings) (c .settings .mode) k (b .missing), count-append k (b .lost) (gapNumbers (givenUp (c .settings) (b .missing))));
       ordered = t .ordered;
     }
 

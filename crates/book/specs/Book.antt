@@ -151,9 +151,9 @@ giveUp c b =
     record {
       span = b .span;
       waiting = b .waiting;
-      missing = notGivenUp (c .settings) (c .settings .mode) (b .missing);
+      missing = notGivenUp (c .settings) (b .missing);
       handed = b .handed;
-      lost = b .lost ++ gapNumbers (givenUp (c .settings) (c .settings .mode) (b .missing));
+      lost = b .lost ++ gapNumbers (givenUp (c .settings) (b .missing));
       forgotten = b .forgotten;
       estimate = b .estimate;
       remembered = b .remembered;

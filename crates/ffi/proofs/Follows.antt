@@ -2,7 +2,8 @@
 use mathlib.Core.Path.{_≡_, refl, ap}
 use mathlib.Core.Bool.{Bool, true, false, cond}
 use mathlib.Core.List.{List, [], _∷_}
-use Prim.Native.Nat.{ℕ}
+use Prim.Native.Nat.{ℕ, zero, suc}
+use lib.ListN.{length}
 use lib.Dec.{eqb}
 use Rattle.rtp.specs.declared.opt.Opt.the-variants.{None}
 use Rattle.model.specs.declared.Queue.{Queue}
@@ -10,7 +11,7 @@ use Rattle.model.specs.declared.Session.{Session}
 use Rattle.model.specs.Records.{Entry, State, newState}
 use Rattle.model.specs.Rules.{waits}
 use Rattle.model.specs.Push.{mediaEntry, mediaPlace}
-use Rattle.model.specs.Poll.{goingOut, nackNumbers}
+use Rattle.model.specs.Poll.{goingOut, dueGaps}
 use Rattle.model.specs.Storage.{Storage, Stored, parse, write}
 use Rattle.model.specs.Calls as Calls
 use Rattle.model.specs.Calls.{Call, handed, nackAnswer, taken, answered}
@@ -35,17 +36,17 @@ unfolding refusalIn handed
 no-refusal-handed q [] = refl
 no-refusal-handed q (e ∷ es) = refl
 
-no-refusal-nack : (l : List ℕ) → refusalIn (nackAnswer l) ≡ None
+no-refusal-nack : (n : ℕ) → refusalIn (nackAnswer n) ≡ None
 unfolding refusalIn nackAnswer
-no-refusal-nack [] = refl
-no-refusal-nack (n ∷ ns) = refl
+no-refusal-nack zero = refl
+no-refusal-nack (suc n) = refl
 
 no-refusal : (c : Call) (s : State) → refusalIn (answered c s) ≡ None
 unfolding answered refusalIn
 no-refusal (Calls.media now d) s = one-of-two (waits (mediaPlace s (mediaEntry now d (s .queue) .number)))
 no-refusal (Calls.repair now d) s = refl
 no-refusal (Calls.poll now out) s = no-refusal-handed (s .queue) (goingOut now s (s .entries))
-no-refusal (Calls.pollNack now out) s = no-refusal-nack (nackNumbers now s)
+no-refusal (Calls.pollNack now out) s = no-refusal-nack (length (dueGaps now (s .queue) (s .gaps)))
 no-refusal (Calls.timeoutReceive now) s = refl
 no-refusal (Calls.timeoutNack now) s = refl
 no-refusal Calls.rtxStats s = refl

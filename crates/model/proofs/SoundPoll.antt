@@ -15,7 +15,7 @@ use Rattle.config.specs.declared.RtpInboundQueueMode.{RtpInboundQueueMode}
 use Rattle.config.specs.declared.RtpInboundQueueMode.the-variants.{Passthrough, SortedQueue}
 use Rattle.model.specs.Records.{Entry, Gap, Remembered, State, returnedOf}
 use Rattle.model.specs.Rules.{MAX-LOST-NACKED, below, gapsBelow, gapsFrom, due, nacked, nackedIfDue, tried, latest, remember, rememberedAfter}
-use Rattle.model.specs.Poll.{timingsOf, countLost, lose, givenUp, notGivenUp, drained, ready, handsOut, goingOut, lostBelow, lostUnder, leftFrom, handOut, afterPoll, nackAll, afterPollNack}
+use Rattle.model.specs.Poll.{timingsOf, countLost, lose, givenUp, notGivenUpIn, drained, ready, handsOut, goingOut, lostBelow, lostUnder, leftFrom, handOut, afterPoll, nackAll, afterPollNack}
 use Rattle.model.specs.Table.{lostWith, pollRefusal, nacksRefusal, pollNackRefusal}
 use Rattle.model.proofs.Lists.{by-cases, Each, none, each-first, each-imp, each-append, each-drop, each-keep, each-trailing, each-map, Rising, rising-keep, rising-trailing, length-keep, length-trailing}
 use Rattle.model.proofs.Sound.{Ahead, GapIn, Apart, RememberedIn, Sound}
@@ -28,18 +28,18 @@ gapNumber g = g .number
 -- ---- the gaps that stay
 
 module _ (set : Settings) where
-  part-not-given-up : (mode : RtpInboundQueueMode) {l : List Gap} (P : Gap → Type 0) → Each P l → Each P (notGivenUp set mode l)
-  unfolding notGivenUp
+  part-not-given-up : (mode : RtpInboundQueueMode) {l : List Gap} (P : Gap → Type 0) → Each P l → Each P (notGivenUpIn mode set l)
+  unfolding notGivenUpIn
   part-not-given-up Passthrough P h = each-trailing (tried (set .«max_nack_attempts»)) h
   part-not-given-up SortedQueue P h = h
 
-  rising-not-given-up : (mode : RtpInboundQueueMode) {l : List Gap} → Rising gapNumber l → Rising gapNumber (notGivenUp set mode l)
-  unfolding notGivenUp
+  rising-not-given-up : (mode : RtpInboundQueueMode) {l : List Gap} → Rising gapNumber l → Rising gapNumber (notGivenUpIn mode set l)
+  unfolding notGivenUpIn
   rising-not-given-up Passthrough h = rising-trailing _ (tried (set .«max_nack_attempts»)) h
   rising-not-given-up SortedQueue h = h
 
-  length-not-given-up : (mode : RtpInboundQueueMode) (l : List Gap) → length (notGivenUp set mode l) ≤ length l
-  unfolding notGivenUp
+  length-not-given-up : (mode : RtpInboundQueueMode) (l : List Gap) → length (notGivenUpIn mode set l) ≤ length l
+  unfolding notGivenUpIn
   length-not-given-up Passthrough l = length-trailing (tried (set .«max_nack_attempts»)) l
   length-not-given-up SortedQueue l = omega arith
 
@@ -91,7 +91,7 @@ module _ (now : ℕ) (s : State) (h : Sound s) (later-now : s .queue .clock ≤ 
   abbrev set : Settings
   set = s .queue .config .settings
 
-  drained-sound : s .queue .counters .lost + length (givenUp set (set .mode) (s .gaps)) ≤ largest → Sound (drained now s)
+  drained-sound : s .queue .counters .lost + length (givenUp set (s .gaps)) ≤ largest → Sound (drained now s)
   unfolding drained lose countLost
   drained-sound fits =
       let q = h .queue-in in
@@ -133,15 +133,15 @@ out-sound e es s at h fits =
 
 nothing-sound : (now : ℕ) (s : State) → Sound s → s .queue .clock ≤ now → s .queue .counters .lost + length (lostWith now s []) ≤ largest → Sound (drained now s)
 unfolding lostWith lostUnder
-nothing-sound now s h later-now fits = drained-sound now s h later-now (omega (arith, length-append (givenUp (s .queue .config .settings) (s .queue .config .settings .mode) (s .gaps)) []))
+nothing-sound now s h later-now fits = drained-sound now s h later-now (omega (arith, length-append (givenUp (s .queue .config .settings) (s .gaps)) []))
 
 front-sound : (now : ℕ) (s : State) → Sound s → s .queue .clock ≤ now → (es : List Entry) → s .entries ≡ es → s .queue .counters .lost + length (lostWith now s (goingOut now s es)) ≤ largest → Sound (handOut (goingOut now s es) (drained now s))
 unfolding goingOut handsOut lostUnder lostWith handOut drained lose countLost
 front-sound now s h later-now [] at = nothing-sound now s h later-now
 front-sound now s h later-now (x ∷ xs) at =
-    by-cases P (ready (s .queue) (s .queue .config .settings .mode) (s .queue .last) now x)
+    by-cases P (ready (s .queue) now (x .timestamp))
     (λ y fits.
-    let given = givenUp (s .queue .config .settings) (s .queue .config .settings .mode) (s .gaps) in
+    let given = givenUp (s .queue .config .settings) (s .gaps) in
     let both = length-append given (lostBelow (s .queue .config .settings .mode) (x .number) (drained now s .gaps)) in
     out-sound x xs (drained now s) at (drained-sound now s h later-now (omega arith)) (omega arith))
     (λ n. nothing-sound now s h later-now)

@@ -4,7 +4,7 @@ use mathlib.Core.Bool.{not}
 use mathlib.Core.List.{List, [], _∷_}
 use Prim.Native.Nat.{ℕ, suc, _+_, _-_, _*_, _≤_, _<_}
 use native.Mathlib.Omega.{arith}
-use lib.Dec.{T, leb, ltb, ltb→lt, nleb→lt, nltb→le, lit<}
+use lib.Dec.{T, leb, ltb, le→leb, ltb→lt, nleb→lt, nltb→le, lit<}
 use lib.ListN.{length, length-append, length-map, length-drop}
 use Rattle.rtp.specs.declared.opt.Opt.{Opt}
 use Rattle.rtp.specs.declared.opt.Opt.the-variants.{None, Some}
@@ -25,7 +25,7 @@ use Rattle.model.specs.Records.{Entry, Gap, Remembered, State, highestOf
 use Rattle.model.specs.Rules.{MAX-GAP-SIZE, MAX-LOST-NACKED, is, below, without, gapsFrom, Place, first, near, far, fills, other, placeOf, waits, between, gapsAfter, isOf, forgetFirst}
 use Rattle.model.specs.Push.{passed, insertSorted, mediaPlace, heard, lastAfter, countDropped, countReceived, afterDropped, afterQueued, frontOut, overfull, withinDepth, mediaEntry, afterMedia, Fate, tooLate, recovered, redundant, repairFate, repairEntry, afterFate, afterRepair}
 use Rattle.model.specs.Storage.{entryPlaces}
-use Rattle.model.specs.Table.{mediaValues, tooManyGaps, packetRefusal, mediaRefusal, originalNumberRefusal, fateValues, noPlace, fateRefusal, repairRefusal}
+use Rattle.model.specs.Table.{atDepth, mediaValues, tooManyGaps, packetRefusal, mediaRefusal, originalNumberRefusal, fateValues, noPlace, fateRefusal, repairRefusal}
 use Rattle.model.proofs.Lists.{by-cases, by-nand, arm-yes, arm-no, Each, none, more, each-first, each-rest, each-keep, empty, rising-keep, length-keep, length-following, length-insert}
 use Rattle.model.proofs.Sound.{Reached, Ahead, ahead-of, By, EntryIn, ListsIn, QueueIn, ListsOf, Sound}
 use Rattle.model.proofs.SoundLists.{reached-gap, later, fewer, remembering, out, fill, come, step, from-ahead}
@@ -83,7 +83,7 @@ module _ {now : ℕ} {mode : RtpInboundQueueMode} {returned : Opt} {gaps : List 
       go is-other w = absurd w
 
 -- check 12: the gaps that open find places
-gaps-after-fit : {highest : Opt} {gaps : List Gap} {n : ℕ} {p : Place} (now : ℕ) (set : Settings) → Stands highest gaps n p → length gaps ≤ set .«max_gaps» → T (not (tooManyGaps set gaps n p)) → length (gapsAfter now n p gaps) ≤ set .«max_gaps»
+gaps-after-fit : {highest : Opt} {gaps : List Gap} {n : ℕ} {p : Place} (now : ℕ) (set : Settings) → Stands highest gaps n p → length gaps ≤ set .«max_gaps» → T (not (tooManyGaps set (length gaps) n p)) → length (gapsAfter now n p gaps) ≤ set .«max_gaps»
 unfolding gapsAfter tooManyGaps without between
 gaps-after-fit now set (is-first at) fit t = fit
 gaps-after-fit {gaps = gaps} {n = n} now set (is-near {h = h} at lt) fit t =
@@ -119,6 +119,13 @@ module _ (s : State) (q : QueueIn (s .queue)) (l : ListsOf s) (entries-fit : len
 
 -- ---- a media packet
 
+-- what leaves more than the depth found it full
+at-depth : (now : ℕ) (s : State) (e : Entry) (p : Place) → T (overfull (afterQueued now e p s)) → T (atDepth (s .queue .config .settings) (length (s .entries)))
+unfolding overfull afterQueued heard
+at-depth now s e p t =
+    let d = s .queue .config .settings .«max_entries» in
+    le→leb d (length (s .entries)) (omega (arith, ltb→lt d (length (insertSorted e (s .entries))) t, length-insert e (s .entries)))
+
 module _ (now : ℕ) (s : State) (h : Sound s) (later-now : s .queue .clock ≤ now) (now-fits : now ≤ largest) where
   dropped-sound : (ts : ℕ) → ts ≤ largest → s .queue .counters .dropped + 1 ≤ largest → Sound (afterDropped now ts s)
   unfolding afterDropped heard countDropped
@@ -138,7 +145,7 @@ module _ (now : ℕ) (s : State) (h : Sound s) (later-now : s .queue .clock ≤ 
       loss-set (counters-set (last-set q (last-after now p (s .queue .last) a b (q .last-in))) (record { dropped-fits = c .dropped-fits; received-fits = r; bytes-fit = y; lost-fits = c .lost-fits }))
       (received-in (s .queue .loss) (q .loss-in))
 
-  queued-sound : (e : Entry) → let p = mediaPlace s (e .number) in T (waits p) → By now (e .arrival) → length (e .payload) ≤ LARGEST-PAYLOAD → Each (λ v. v ≤ largest) (e .timestamp ∷ e .number ∷ mediaValues (s .queue .counters) (length (e .payload)) (waits p) (overfull (afterQueued now e p s))) → T (not (tooManyGaps (s .queue .config .settings) (s .gaps) (e .number) p)) → Sound (withinDepth (afterQueued now e p s))
+  queued-sound : (e : Entry) → let p = mediaPlace s (e .number) in T (waits p) → By now (e .arrival) → length (e .payload) ≤ LARGEST-PAYLOAD → Each (λ v. v ≤ largest) (e .timestamp ∷ e .number ∷ mediaValues (s .queue .counters) (length (e .payload)) (waits p) (atDepth (s .queue .config .settings) (length (s .entries)))) → T (not (tooManyGaps (s .queue .config .settings) (length (s .gaps)) (e .number) p)) → Sound (withinDepth (afterQueued now e p s))
   unfolding mediaValues afterQueued heard countReceived
   queued-sound e w by size values room =
       let p = mediaPlace s (e .number) in
@@ -150,7 +157,7 @@ module _ (now : ℕ) (s : State) (h : Sound s) (later-now : s .queue .clock ≤ 
       (omega (arith, length-insert e (s .entries), h .fits .entries-fit))
       (gaps-after-fit now (s .queue .config .settings) (st .1) (h .fits .gaps-fit) room)
       (h .fits .remembered-fit)
-      (λ t. each-first (arm-yes (Each (λ v. v ≤ largest)) (overfull (afterQueued now e p s)) _ _ t (each-rest (each-rest raised))))
+      (λ t. each-first (arm-yes (Each (λ v. v ≤ largest)) (atDepth (s .queue .config .settings) (length (s .entries))) _ _ (at-depth now s e p t) (each-rest (each-rest raised))))
 
 pub media-sound : (now : ℕ) (d : List ℕ) (s : State) → Sound s → mediaRefusal now d s ≡ 0 → Sound (afterMedia now d s)
 unfolding mediaRefusal packetRefusal afterMedia mediaEntry mediaValues By
@@ -163,7 +170,7 @@ media-sound now d s h e =
     let t = clock-of (s .queue) now (a .0) in
     let values = counts-of _ (c .0) in
     by-cases Sound (waits p)
-    (λ w. queued-sound now s h (t .0) (t .1) x w (omega arith) (payload-fits _ _ LARGEST-PAYLOAD d (b .0)) values (not-refused (tooManyGaps (s .queue .config .settings) (s .gaps) (x .number) p) GAPS-FULL (lit< tt) (c .1)))
+    (λ w. queued-sound now s h (t .0) (t .1) x w (omega arith) (payload-fits _ _ LARGEST-PAYLOAD d (b .0)) values (not-refused (tooManyGaps (s .queue .config .settings) (length (s .gaps)) (x .number) p) GAPS-FULL (lit< tt) (c .1)))
     (λ n. dropped-sound now s h (t .0) (t .1) (x .timestamp) (each-first values) (each-first (arm-no (Each (λ v. v ≤ largest)) (waits p) _ _ n (each-rest (each-rest values)))))
 
 -- ---- a repair

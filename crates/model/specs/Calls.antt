@@ -1,7 +1,7 @@
 -- The eight calls of 01, what each answers and what it leaves. The opening is in Did.
 use mathlib.Core.Bool.{Bool, cond}
 use mathlib.Core.List.{List, [], _∷_}
-use Prim.Native.Nat.{ℕ, _%_, _^_}
+use Prim.Native.Nat.{ℕ, zero, suc, _%_, _^_}
 use lib.ListN.{length}
 use Rattle.words.specs.Words.{over}
 use Rattle.rtp.specs.declared.opt.Opt.{Opt}
@@ -14,7 +14,7 @@ use Rattle.model.specs.declared.Queue.{Queue}
 use Rattle.model.specs.Records.{Entry, State, highestOf}
 use Rattle.model.specs.Rules.{Place, waits}
 use Rattle.model.specs.Push.{mediaEntry, mediaPlace, afterMedia, Fate, repairEntry, repairFate, afterRepair}
-use Rattle.model.specs.Poll.{goingOut, afterPoll, nackNumbers, afterPollNack, receiveTimeout, timingsOf, nackTimeout, repairFigures}
+use Rattle.model.specs.Poll.{goingOut, afterPoll, dueGaps, nackNumbers, afterPollNack, receiveTimeout, timingsOf, nackTimeout, repairFigures}
 
 -- A call with its own arguments; `now` is the first. The last argument of `poll` and `pollNack` is the lent output.
 pub data Call : Type 0 where
@@ -76,9 +76,10 @@ unfoldable pub handed : Queue → List Entry → Answer
 handed q [] = nothing
 handed q (e ∷ es) = packet (packetOf q e)
 
-unfoldable pub nackAnswer : List ℕ → Answer
-nackAnswer [] = nothing
-nackAnswer (n ∷ ns) = nack (length (n ∷ ns))
+-- so many numbers are due
+unfoldable pub nackAnswer : ℕ → Answer
+nackAnswer zero = nothing
+nackAnswer (suc n) = nack (suc n)
 
 unfoldable pub placedAnswer : Place → Answer
 placedAnswer p = cond (waits p) queued dropped
@@ -88,7 +89,7 @@ unfolding placedAnswer
 answered (media now d) s = placedAnswer (mediaPlace s (mediaEntry now d (s .queue) .number))
 answered (repair now d) s = repaired (repairFate s (repairEntry d (s .queue) .number))
 answered (poll now out) s = handed (s .queue) (goingOut now s (s .entries))
-answered (pollNack now out) s = nackAnswer (nackNumbers now s)
+answered (pollNack now out) s = nackAnswer (length (dueGaps now (s .queue) (s .gaps)))
 answered (timeoutReceive now) s = timeout (receiveTimeout (s .queue .config .settings .mode) (s .queue .config .settings) (s .queue .last) (s .entries) now)
 answered (timeoutNack now) s = timeout (nackTimeout (timingsOf (s .queue)) now (s .gaps))
 answered rtxStats s = stats (repairFigures (s .queue))

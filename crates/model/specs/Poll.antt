@@ -36,17 +36,23 @@ lose n q = withLoss (withCounters q (countLost n (q .counters))) (recordLost (q 
 -- ---- numbers given up
 
 -- "In `Passthrough`, the leading gaps NACKed at least max times become lost, first thing in every `poll_nack` and `poll`"
-unfoldable pub givenUp : Settings → RtpInboundQueueMode → List Gap → List Gap
-givenUp set Passthrough l = leading (tried (set .«max_nack_attempts»)) l
-givenUp set SortedQueue l = []
+unfoldable pub givenUpIn : RtpInboundQueueMode → Settings → List Gap → List Gap
+givenUpIn Passthrough set l = leading (tried (set .«max_nack_attempts»)) l
+givenUpIn SortedQueue set l = []
 
-unfoldable pub notGivenUp : Settings → RtpInboundQueueMode → List Gap → List Gap
-notGivenUp set Passthrough l = trailing (tried (set .«max_nack_attempts»)) l
-notGivenUp set SortedQueue l = l
+unfoldable pub notGivenUpIn : RtpInboundQueueMode → Settings → List Gap → List Gap
+notGivenUpIn Passthrough set l = trailing (tried (set .«max_nack_attempts»)) l
+notGivenUpIn SortedQueue set l = l
+
+abbrev pub givenUp : Settings → List Gap → List Gap
+givenUp set l = givenUpIn (set .mode) set l
+
+abbrev pub notGivenUp : Settings → List Gap → List Gap
+notGivenUp set l = notGivenUpIn (set .mode) set l
 
 -- the clock, then `drain_lost`: what it makes of the queue's record, by the gaps, and of the whole
 abbrev pub drainedQueue : ℕ → Queue → List Gap → Queue
-drainedQueue now q gaps = lose (length (givenUp (q .config .settings) (q .config .settings .mode) gaps)) (withClock q now)
+drainedQueue now q gaps = lose (length (givenUp (q .config .settings) gaps)) (withClock q now)
 
 unfoldable pub drained : ℕ → State → State
 drained now s =
@@ -54,7 +60,7 @@ drained now s =
     record {
       queue = drainedQueue now (s .queue) (s .gaps);
       entries = s .entries;
-      gaps = notGivenUp set (set .mode) (s .gaps);
+      gaps = notGivenUp set (s .gaps);
       remembered = s .remembered;
     }
 
@@ -65,17 +71,20 @@ unfoldable pub reaches : ℕ → Opt → Bool
 reaches timestamp None = false
 reaches timestamp (Some limit) = leb timestamp limit
 
-unfoldable pub ready : Queue → RtpInboundQueueMode → LastReceived → ℕ → Entry → Bool
-ready q Passthrough last now e = true
-ready q SortedQueue LastReceived.None now e = false
-ready q SortedQueue (LastReceived.Some r) now e =
-    let set = q .config .settings in
-    reaches (e .timestamp) (maxTimestamp (r .instant) (r .timestamp .0) (set .«clock_rate») (targetDelay set) now)
+unfoldable pub readyIn : RtpInboundQueueMode → Settings → LastReceived → ℕ → ℕ → Bool
+readyIn Passthrough set last now timestamp = true
+readyIn SortedQueue set LastReceived.None now timestamp = false
+readyIn SortedQueue set (LastReceived.Some r) now timestamp =
+    reaches timestamp (maxTimestamp (r .instant) (r .timestamp .0) (set .«clock_rate») (targetDelay set) now)
+
+-- whether an entry of the timestamp goes out where it is the front one
+abbrev pub ready : Queue → ℕ → ℕ → Bool
+ready q now timestamp = readyIn (q .config .settings .mode) (q .config .settings) (q .last) now timestamp
 
 -- whether the front entry goes out
 unfoldable pub handsOut : ℕ → Queue → List Entry → Bool
 handsOut now q [] = false
-handsOut now q (e ∷ es) = ready q (q .config .settings .mode) (q .last) now e
+handsOut now q (e ∷ es) = ready q now (e .timestamp)
 
 -- the entry that goes out, if one does
 unfoldable pub goingOut : ℕ → State → List Entry → List Entry
@@ -95,6 +104,10 @@ unfoldable pub lostUnder : RtpInboundQueueMode → List Entry → List Gap → L
 lostUnder mode [] l = []
 lostUnder mode (e ∷ es) l = lostBelow mode (e .number) l
 
+-- the number goes out, and so many below it are lost
+abbrev pub queueHandedOut : ℕ → ℕ → Queue → Queue
+queueHandedOut n lost q = withReturned (lose lost q) n
+
 unfoldable pub handOut : List Entry → State → State
 handOut [] s = s
 handOut (e ∷ es) s =
@@ -102,7 +115,7 @@ handOut (e ∷ es) s =
     let mode = q .config .settings .mode in
     let lost = lostBelow mode (e .number) (s .gaps) in
     record {
-      queue = withReturned (lose (length lost) q) (e .number);
+      queue = queueHandedOut (e .number) (length lost) q;
       entries = drop 1 (s .entries);
       gaps = leftFrom mode (e .number) (s .gaps);
       remembered = rememberedAfter (q .config .senders .«has_rtx») lost (s .remembered);
@@ -118,7 +131,7 @@ timingsOf q = timingsIn (q .config) (q .rtx .rtt)
 
 -- the gaps for which a NACK goes out, once those given up are out
 unfoldable pub dueGaps : ℕ → Queue → List Gap → List Gap
-dueGaps now q gaps = keep (due (timingsOf q) now) (notGivenUp (q .config .settings) (q .config .settings .mode) gaps)
+dueGaps now q gaps = keep (due (timingsOf q) now) (notGivenUp (q .config .settings) gaps)
 
 -- "The due numbers come out ascending by extended number, as 16 bits"
 unfoldable pub nackNumbers : ℕ → State → List ℕ

@@ -90,28 +90,34 @@ unfoldable pub countReceived : ℕ → Counters → Counters
 countReceived size c = record { dropped = c .dropped; received = c .received + 1; bytes = c .bytes + size; lost = c .lost }
 
 -- dropped: it moves no number
+abbrev pub queueDropped : ℕ → ℕ → Queue → Queue
+queueDropped now ts q = withCounters (heard now ts q) (countDropped (q .counters))
+
 unfoldable pub afterDropped : ℕ → ℕ → State → State
-afterDropped now ts s =
-    let q = heard now ts (s .queue) in
-    record { queue = withCounters q (countDropped (q .counters)); entries = s .entries; gaps = s .gaps; remembered = s .remembered }
+afterDropped now ts s = record { queue = queueDropped now ts (s .queue); entries = s .entries; gaps = s .gaps; remembered = s .remembered }
 
 -- queued, before the depth is looked at
+abbrev pub queueQueued : ℕ → ℕ → ℕ → ℕ → Place → Queue → Queue
+queueQueued now ts n size p q =
+    let last = lastAfter now ts n p (q .last) in
+    withLoss (withCounters (withLast (heard now ts q) last) (countReceived size (q .counters))) (recordReceived (q .loss))
+
 unfoldable pub afterQueued : ℕ → Entry → Place → State → State
 afterQueued now e p s =
-    let q = heard now (e .timestamp) (s .queue) in
     record {
-      queue = withLoss (withCounters (withLast q (lastAfter now (e .timestamp) (e .number) p (q .last))) (countReceived (length (e .payload)) (q .counters))) (recordReceived (q .loss));
+      queue = queueQueued now (e .timestamp) (e .number) (length (e .payload)) p (s .queue);
       entries = insertSorted e (s .entries);
       gaps = gapsAfter now (e .number) p (s .gaps);
       remembered = s .remembered;
     }
 
 -- "the front one is pushed out: it counts as dropped, becomes the last returned, and missing numbers below it go uncounted"
+abbrev pub queuePushedOut : ℕ → Queue → Queue
+queuePushedOut n q = withReturned (withCounters q (countDropped (q .counters))) n
+
 unfoldable pub frontOut : List Entry → State → State
 frontOut [] s = s
-frontOut (e ∷ es) s =
-    let q = s .queue in
-    record { queue = withReturned (withCounters q (countDropped (q .counters))) (e .number); entries = es; gaps = gapsFrom (e .number) (s .gaps); remembered = s .remembered }
+frontOut (e ∷ es) s = record { queue = queuePushedOut (e .number) (s .queue); entries = es; gaps = gapsFrom (e .number) (s .gaps); remembered = s .remembered }
 
 unfoldable pub overfull : State → Bool
 overfull s = ltb (s .queue .config .settings .«max_entries») (length (s .entries))
@@ -154,23 +160,28 @@ abbrev pub sampled : ℕ → Opt → RtxState → RtxState
 sampled now instant r =
     record { rtt = sampledAt now instant (r .rtt); «received_in_time» = r .«received_in_time»; «received_too_late» = r .«received_too_late»; «received_redundant» = r .«received_redundant»; «bytes_received» = r .«bytes_received» }
 
+-- `nacked` is the instant of the number's NACK, if there was just one
+abbrev pub queueTooLate : ℕ → Opt → Queue → Queue
+queueTooLate now nacked q = withRtx (withClock q now) (sampled now nacked (recordTooLate (q .rtx)))
+
+abbrev pub queueRedundant : ℕ → Queue → Queue
+queueRedundant now q = withRtx (withClock q now) (recordRedundant (q .rtx))
+
+abbrev pub queueRecovered : ℕ → Opt → ℕ → Queue → Queue
+queueRecovered now nacked size q = withLoss (withRtx (withClock q now) (sampled now nacked (recordInTime (q .rtx) size))) (recordLost (q .loss) 1)
+
 unfoldable pub afterFate : ℕ → Entry → Fate → State → State
 afterFate now e tooLate s =
-    let q = withClock (s .queue) now in
     record {
-      queue = withRtx q (sampled now (instantOf (keep (isOf (e .number)) (s .remembered))) (recordTooLate (q .rtx)));
+      queue = queueTooLate now (instantOf (keep (isOf (e .number)) (s .remembered))) (s .queue);
       entries = s .entries;
       gaps = s .gaps;
       remembered = forgetFirst (e .number) (s .remembered);
     }
-afterFate now e redundant s =
-    let q = withClock (s .queue) now in
-    record { queue = withRtx q (recordRedundant (q .rtx)); entries = s .entries; gaps = s .gaps; remembered = s .remembered }
+afterFate now e redundant s = record { queue = queueRedundant now (s .queue); entries = s .entries; gaps = s .gaps; remembered = s .remembered }
 afterFate now e recovered s =
-    let q = withClock (s .queue) now in
     record {
-      queue =
-          withLoss (withRtx q (sampled now (onceOf (gapOf (e .number) (s .gaps))) (recordInTime (q .rtx) (length (e .payload))))) (recordLost (q .loss) 1);
+      queue = queueRecovered now (onceOf (gapOf (e .number) (s .gaps))) (length (e .payload)) (s .queue);
       entries = insertSorted e (s .entries);
       gaps = without (e .number) (s .gaps);
       remembered = s .remembered;

@@ -20,7 +20,7 @@ use Rattle.model.specs.declared.Queue.{Queue}
 use Rattle.model.specs.Lists.{some?}
 use Rattle.model.specs.Records.{Entry, Gap, State}
 use Rattle.model.specs.Rules.{Place, first, near, far, fills, other, waits, full}
-use Rattle.model.specs.Push.{mediaEntry, mediaPlace, afterQueued, overfull, Fate, tooLate, recovered, redundant, repairEntry, repairFate}
+use Rattle.model.specs.Push.{mediaEntry, mediaPlace, Fate, tooLate, recovered, redundant, repairEntry, repairFate}
 use Rattle.model.specs.Poll.{givenUp, drained, goingOut, lostUnder, dueGaps}
 use Rattle.model.specs.Valid.{sound}
 use Rattle.model.specs.Storage.{Storage, Stored, lengthsFit, entryPlaces, parse}
@@ -43,9 +43,9 @@ sessionSound m =
 unfoldable pub sessionRefusal : Stored → ℕ
 sessionRefusal m = refuseIf (not (sessionSound m)) SESSION
 
--- 15
-unfoldable pub outputRefusal : ℕ → List ℕ → ℕ
-outputRefusal needed out = refuseIf (ltb (length out) needed) OUTPUT
+-- 15: an output of so many places, where so many are needed
+unfoldable pub outputRefusal : ℕ → ℕ → ℕ
+outputRefusal needed places = refuseIf (ltb places needed) OUTPUT
 
 -- 8
 unfoldable pub clockRefusal : Queue → ℕ → ℕ
@@ -73,24 +73,31 @@ nackCountRefusal due = refuseIf (some? full due) COUNT
 
 -- ---- a media packet
 
+-- one entry more would be over the depth
+abbrev pub atDepth : Settings → ℕ → Bool
+atDepth set entries = leb (set .«max_entries») entries
+
 -- 14: the counters that a packet of this size would raise
 unfoldable pub mediaValues : Counters → ℕ → Bool → Bool → List ℕ
-mediaValues c size waits overfull = cond waits ((c .received + 1) ∷ (c .bytes + size) ∷ cond overfull ((c .dropped + 1) ∷ []) []) ((c .dropped + 1) ∷ [])
+mediaValues c size waits pushesOut = cond waits ((c .received + 1) ∷ (c .bytes + size) ∷ cond pushesOut ((c .dropped + 1) ∷ []) []) ((c .dropped + 1) ∷ [])
 
--- 12: "s from 2 to 1,000, packet would be queued, open gaps + s − 1 over G"
-unfoldable pub tooManyGaps : Settings → List Gap → ℕ → Place → Bool
+-- 12: "s from 2 to 1,000, packet would be queued, open gaps + s − 1 over G", with so many gaps open
+unfoldable pub tooManyGaps : Settings → ℕ → ℕ → Place → Bool
 tooManyGaps set gaps n first = false
-tooManyGaps set gaps n (near h) = ltb (set .«max_gaps») (length gaps + ((n - h) - 1)) && leb 2 (n - h)
+tooManyGaps set gaps n (near h) = ltb (set .«max_gaps») (gaps + ((n - h) - 1)) && leb 2 (n - h)
 tooManyGaps set gaps n (far h) = false
 tooManyGaps set gaps n fills = false
 tooManyGaps set gaps n other = false
 
--- 14, then 12
-unfoldable pub packetRefusal : ℕ → Entry → Place → State → ℕ
-packetRefusal now e p s =
-    let q = s .queue in
-    orElse (countRefusal (e .timestamp ∷ e .number ∷ mediaValues (q .counters) (length (e .payload)) (waits p) (overfull (afterQueued now e p s))))
-    (refuseIf (tooManyGaps (q .config .settings) (s .gaps) (e .number) p) GAPS-FULL)
+-- 14, then 12, of a packet by its timestamp, number, size and place, where so many entries and gaps are held
+unfoldable pub packetRefusal : Queue → ℕ → ℕ → ℕ → ℕ → ℕ → Place → ℕ
+packetRefusal q entries gaps ts n size p =
+    let set = q .config .settings in
+    orElse (countRefusal (ts ∷ n ∷ mediaValues (q .counters) size (waits p) (atDepth set entries))) (refuseIf (tooManyGaps set gaps n p) GAPS-FULL)
+
+-- the same of an entry at its place
+abbrev pub refusalAt : Entry → Place → State → ℕ
+refusalAt e p s = packetRefusal (s .queue) (length (s .entries)) (length (s .gaps)) (e .timestamp) (e .number) (length (e .payload)) p
 
 unfoldable pub mediaRefusal : ℕ → List ℕ → State → ℕ
 mediaRefusal now d s =
@@ -98,7 +105,7 @@ mediaRefusal now d s =
     let e = mediaEntry now d q in
     orElse (clockRefusal q now)
     (orElse (datagramRefusal (q .config .senders .pt) (q .config .senders .ssrc .0) LARGEST-PAYLOAD d)
-    (packetRefusal now e (mediaPlace s (e .number)) s))
+    (refusalAt e (mediaPlace s (e .number)) s))
 
 -- ---- a repair
 
@@ -118,12 +125,14 @@ noPlace places entries tooLate = false
 noPlace places entries redundant = false
 noPlace places entries recovered = leb places entries
 
--- 14, then 13
-unfoldable pub fateRefusal : Entry → Fate → State → ℕ
-fateRefusal e f s =
-    let q = s .queue in
-    orElse (countRefusal (e .timestamp ∷ e .number ∷ fateValues (q .rtx) (length (e .payload)) f))
-    (refuseIf (noPlace (entryPlaces (q .config .settings)) (length (s .entries)) f) ENTRIES-FULL)
+-- 14, then 13, of a repair by its timestamp, number, size and fate, where so many entries are held
+unfoldable pub fateRefusal : Queue → ℕ → ℕ → ℕ → ℕ → Fate → ℕ
+fateRefusal q entries ts n size f =
+    orElse (countRefusal (ts ∷ n ∷ fateValues (q .rtx) size f)) (refuseIf (noPlace (entryPlaces (q .config .settings)) entries f) ENTRIES-FULL)
+
+-- the same of an entry
+abbrev pub refusalFor : Entry → Fate → State → ℕ
+refusalFor e f s = fateRefusal (s .queue) (length (s .entries)) (e .timestamp) (e .number) (length (e .payload)) f
 
 unfoldable pub repairRefusal : ℕ → List ℕ → State → ℕ
 repairRefusal now d s =
@@ -132,7 +141,7 @@ repairRefusal now d s =
     orElse (clockRefusal q now)
     (orElse (rtxRefusal q)
     (orElse (datagramRefusal (q .config .senders .«rtx_pt») (q .config .senders .«rtx_ssrc» .0) LARGEST-REPAIR d)
-    (orElse (originalNumberRefusal q (payloadOf d)) (fateRefusal e (repairFate s (e .number)) s))))
+    (orElse (originalNumberRefusal q (payloadOf d)) (refusalFor e (repairFate s (e .number)) s))))
 
 -- ---- `poll` and `poll_nack`
 
@@ -140,22 +149,22 @@ repairRefusal now d s =
 unfoldable pub lostWith : ℕ → State → List Entry → List Gap
 lostWith now s es =
     let set = s .queue .config .settings in
-    givenUp set (set .mode) (s .gaps) ++ lostUnder (set .mode) es (drained now s .gaps)
+    givenUp set (s .gaps) ++ lostUnder (set .mode) es (drained now s .gaps)
 
 unfoldable pub pollRefusal : ℕ → List ℕ → State → ℕ
 pollRefusal now out s =
-    orElse (outputRefusal LARGEST-PAYLOAD out)
+    orElse (outputRefusal LARGEST-PAYLOAD (length out))
     (orElse (clockRefusal (s .queue) now) (countRefusal ((s .queue .counters .lost + length (lostWith now s (goingOut now s (s .entries)))) ∷ [])))
 
 -- 14 of `poll_nack`: the numbers lost, then a NACK count
 unfoldable pub nacksRefusal : ℕ → Queue → List Gap → ℕ
 nacksRefusal now q gaps =
     let set = q .config .settings in
-    orElse (countRefusal ((q .counters .lost + length (givenUp set (set .mode) gaps)) ∷ [])) (nackCountRefusal (dueGaps now q gaps))
+    orElse (countRefusal ((q .counters .lost + length (givenUp set gaps)) ∷ [])) (nackCountRefusal (dueGaps now q gaps))
 
 unfoldable pub pollNackRefusal : ℕ → List ℕ → State → ℕ
 pollNackRefusal now out s =
-    orElse (outputRefusal (s .queue .config .settings .«max_gaps») out) (orElse (clockRefusal (s .queue) now) (nacksRefusal now (s .queue) (s .gaps)))
+    orElse (outputRefusal (s .queue .config .settings .«max_gaps») (length out)) (orElse (clockRefusal (s .queue) now) (nacksRefusal now (s .queue) (s .gaps)))
 
 -- ---- any call
 

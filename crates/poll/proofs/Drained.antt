@@ -28,9 +28,9 @@ use Rattle.poll.proofs.Parted.{given-up-le, not-given-up, length-not-gi
 
 -- the gaps that stay, in the slice that `drain` leaves
 module _ (s : Session) (old g : List ℕ) (room : GAP-WORDS * s .gaps ≤ length old)
-    (eg : g ≡ laid gapWords (length old) (notGivenUp (s .queue .config .settings) (s .queue .config .settings .mode) (gapsOf old (s .gaps)))) where
+    (eg : g ≡ laid gapWords (length old) (notGivenUp (s .queue .config .settings) (gapsOf old (s .gaps)))) where
   abbrev left : List Gap
-  left = notGivenUp (s .queue .config .settings) (s .queue .config .settings .mode) (gapsOf old (s .gaps))
+  left = notGivenUp (s .queue .config .settings) (gapsOf old (s .gaps))
 
   pub left-few : length left ≤ s .gaps
   left-few = omega (arith, length-not-given-up (s .queue .config .settings) (s .queue .config .settings .mode) (gapsOf old (s .gaps)), length-gapsOf old (s .gaps))
@@ -48,7 +48,7 @@ module _ (s : Session) (old g : List ℕ) (room : GAP-WORDS * s .gaps ≤ length
   left-in = laid-in (length old) (length left) left g eg refl left-room
 
 module _ (now : ℕ) (m : Stored) (h : Settled m) (g : List ℕ)
-    (eg : g ≡ laid gapWords (length (m .storage .gaps)) (notGivenUp (m .session .queue .config .settings) (m .session .queue .config .settings .mode) (gapsOf (m .storage .gaps) (m .session .gaps)))) where
+    (eg : g ≡ laid gapWords (length (m .storage .gaps)) (notGivenUp (m .session .queue .config .settings) (gapsOf (m .storage .gaps) (m .session .gaps)))) where
   abbrev set : Settings
   set = m .session .queue .config .settings
 
@@ -90,7 +90,7 @@ module _ (now : ℕ) (m : Stored) (h : Settled m) (g : List ℕ)
 
   left-ascend : ascends (gapNumbers (left (m .session) (m .storage .gaps) g room eg)) ≡ true
   left-ascend =
-      let k = length (givenUp set (set .mode) before) in
+      let k = length (givenUp set before) in
       ap (λ (l : List Gap). ascends (gapNumbers l)) (not-given-up set (set .mode) before)
       ∙ ap ascends (map-drop (λ (x : Gap). x .number) k before)
       ∙ ascends-drop k (gapNumbers before) (holding m h .gaps-ascend)

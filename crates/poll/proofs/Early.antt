@@ -21,18 +21,18 @@ use Rattle.storage.proofs.Settled.{assoc, refused-is, accepted-is, passed-16}
 
 -- 16, 15, 8
 unfoldable pub earlyRefusal : ℕ → List ℕ → ℕ → Stored → ℕ
-earlyRefusal needed out now m = orElse (sessionRefusal m) (orElse (outputRefusal needed out) (clockRefusal (m .session .queue) now))
+earlyRefusal needed out now m = orElse (sessionRefusal m) (orElse (outputRefusal needed (length out)) (clockRefusal (m .session .queue) now))
 
-pub early-is : (m : Stored) (needed now : ℕ) (out : List ℕ) (r a b : ℕ) → r ≡ orElse a b → a ≡ sessionRefusal m → b ≡ orElse (outputRefusal needed out) (clockRefusal (m .session .queue) now) → r ≡ earlyRefusal needed out now m
+pub early-is : (m : Stored) (needed now : ℕ) (out : List ℕ) (r a b : ℕ) → r ≡ orElse a b → a ≡ sessionRefusal m → b ≡ orElse (outputRefusal needed (length out)) (clockRefusal (m .session .queue) now) → r ≡ earlyRefusal needed out now m
 unfolding earlyRefusal
 early-is m needed now out r a b e ea eb = rw (← ea, ← eb) e
 
 module _ (m : Stored) (needed now : ℕ) (out : List ℕ) (r : ℕ) (e : r ≡ earlyRefusal needed out now m) (z : r ≡ 0) where
-  none : (sessionRefusal m ≡ 0) × (outputRefusal needed out ≡ 0) × (clockRefusal (m .session .queue) now ≡ 0)
+  none : (sessionRefusal m ≡ 0) × (outputRefusal needed (length out) ≡ 0) × (clockRefusal (m .session .queue) now ≡ 0)
   unfolding earlyRefusal
   none =
-      let a = orElse-none (sessionRefusal m) (orElse (outputRefusal needed out) (clockRefusal (m .session .queue) now)) (sym e ∙ z) in
-      let b = orElse-none (outputRefusal needed out) (clockRefusal (m .session .queue) now) (a .1) in
+      let a = orElse-none (sessionRefusal m) (orElse (outputRefusal needed (length out)) (clockRefusal (m .session .queue) now)) (sym e ∙ z) in
+      let b = orElse-none (outputRefusal needed (length out)) (clockRefusal (m .session .queue) now) (a .1) in
       (a .0, b .0, b .1)
 
   pub is-sound : sessionSound m ≡ true
@@ -45,12 +45,12 @@ module _ (m : Stored) (needed now : ℕ) (out : List ℕ) (r : ℕ) (e : r ≡ e
   pub is-timely : (m .session .queue .clock ≤ now) × (now ≤ largest)
   is-timely = clock-of (m .session .queue) now (none .2)
 
-module _ (k : Call) (m : Stored) (needed now : ℕ) (out : List ℕ) (rest : ℕ) (h : callRefusal k (parse m) ≡ orElse (outputRefusal needed out) (orElse (clockRefusal (m .session .queue) now) rest))
+module _ (k : Call) (m : Stored) (needed now : ℕ) (out : List ℕ) (rest : ℕ) (h : callRefusal k (parse m) ≡ orElse (outputRefusal needed (length out)) (orElse (clockRefusal (m .session .queue) now) rest))
     (r : ℕ) (e : r ≡ earlyRefusal needed out now m) where
   chain : refusal k m ≡ orElse r rest
   unfolding refusal earlyRefusal
   chain =
-      let o = outputRefusal needed out in
+      let o = outputRefusal needed (length out) in
       let c = clockRefusal (m .session .queue) now in
       ap (orElse (sessionRefusal m)) (h ∙ assoc o c rest) ∙ assoc (sessionRefusal m) (orElse o c) rest ∙ ap (λ (x : ℕ). orElse x rest) (sym e)
 

@@ -17,7 +17,7 @@ module _ (now : ℕ) (q : Queue) (words payloads : List ℕ) where
   hands-none n e = rw e
 
   pub hands-first : (n : ℕ) → (n ≡ 0 → ⊥)
-      → handsOut now q (entriesOf words payloads n) ≡ ready q (q .config .settings .mode) (q .last) now (entryOf (take ENTRY-WORDS (drop (ENTRY-WORDS * 0) words)) (take PAYLOAD-BYTES payloads))
+      → handsOut now q (entriesOf words payloads n) ≡ ready q now (entryOf (take ENTRY-WORDS (drop (ENTRY-WORDS * 0) words)) (take PAYLOAD-BYTES payloads) .timestamp)
   unfolding handsOut entriesOf blocks zipWith
   hands-first zero h = absurd (h refl)
   hands-first (suc n) h = refl

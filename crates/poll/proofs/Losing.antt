@@ -10,7 +10,7 @@ use Rattle.config.specs.declared.Settings.{Settings}
 use Rattle.config.specs.declared.RtpInboundQueueMode.{RtpInboundQueueMode}
 use Rattle.config.specs.declared.RtpInboundQueueMode.the-variants.{Passthrough, SortedQueue}
 use Rattle.model.specs.Records.{Entry, Gap, State, gapNumbers}
-use Rattle.model.specs.Poll.{givenUp, notGivenUp, drained, handsOut, goingOut, lostBelow, lostUnder}
+use Rattle.model.specs.Poll.{givenUp, givenUpIn, notGivenUpIn, drained, handsOut, goingOut, lostBelow, lostUnder}
 use Rattle.model.specs.Table.{lostWith}
 use Rattle.poll.specs.declared.Due.{Due}
 use Rattle.poll.specs.Steps.{dueFor}
@@ -18,13 +18,13 @@ use Rattle.poll.proofs.Parted.{given-up-le, lost-le}
 use Rattle.poll.proofs.Fronts.{front-is}
 
 -- what is given up does not change what is below
-same-below : (set : Settings) (mode : RtpInboundQueueMode) (n : ℕ) (l : List Gap) → lostBelow mode n (notGivenUp set mode l) ≡ lostBelow mode n l
-unfolding lostBelow notGivenUp
+same-below : (set : Settings) (mode : RtpInboundQueueMode) (n : ℕ) (l : List Gap) → lostBelow mode n (notGivenUpIn mode set l) ≡ lostBelow mode n l
+unfolding lostBelow notGivenUpIn
 same-below set Passthrough n l = refl
 same-below set SortedQueue n l = refl
 
-both-le : (set : Settings) (mode : RtpInboundQueueMode) (es : List Entry) (l : List Gap) → ascends (gapNumbers l) ≡ true → length (givenUp set mode l) + length (lostUnder mode es (notGivenUp set mode l)) ≤ length l
-unfolding lostUnder lostBelow givenUp notGivenUp
+both-le : (set : Settings) (mode : RtpInboundQueueMode) (es : List Entry) (l : List Gap) → ascends (gapNumbers l) ≡ true → length (givenUpIn mode set l) + length (lostUnder mode es (notGivenUpIn mode set l)) ≤ length l
+unfolding lostUnder lostBelow givenUpIn notGivenUpIn
 both-le set mode [] l a = omega (arith, given-up-le set mode l)
 both-le set Passthrough (e ∷ es) l a = omega (arith, given-up-le set Passthrough l)
 both-le set SortedQueue (e ∷ es) l a = omega (arith, lost-le (e .number) l a SortedQueue)
@@ -35,12 +35,12 @@ module _ (now : ℕ) (s : State) where
 
   -- ---- what the code counts
 
-  pub due-none : (given : ℕ) (b : Bool) → given ≡ length (givenUp set (set .mode) (s .gaps)) → b ≡ handsOut now (s .queue) (s .entries) → b ≡ false
+  pub due-none : (given : ℕ) (b : Bool) → given ≡ length (givenUp set (s .gaps)) → b ≡ handsOut now (s .queue) (s .entries) → b ≡ false
       → record { given = given; «goes_out» = false; lost = 0 } ≡ dueFor now s
   unfolding dueFor lostUnder
   due-none given b eg e f = rw (eg, ← e, front-is now s (s .entries) b e, f)
 
-  pub due-some : (given lost : ℕ) (b : Bool) (x : Entry) → given ≡ length (givenUp set (set .mode) (s .gaps)) → b ≡ handsOut now (s .queue) (s .entries) → b ≡ true → take 1 (s .entries) ≡ x ∷ [] → lost ≡ length (lostBelow (set .mode) (x .number) (s .gaps))
+  pub due-some : (given lost : ℕ) (b : Bool) (x : Entry) → given ≡ length (givenUp set (s .gaps)) → b ≡ handsOut now (s .queue) (s .entries) → b ≡ true → take 1 (s .entries) ≡ x ∷ [] → lost ≡ length (lostBelow (set .mode) (x .number) (s .gaps))
       → record { given = given; «goes_out» = true; lost = lost } ≡ dueFor now s
   unfolding dueFor lostUnder drained
   due-some given lost b x eg e f t el = rw (eg, ← e, front-is now s (s .entries) b e, f, t, el, same-below set (set .mode) (x .number) (s .gaps))
@@ -50,7 +50,7 @@ module _ (now : ℕ) (s : State) where
   module _ (d : Due) (ed : d ≡ dueFor now s) where
     pub due-counts : d .given + d .lost ≡ length (lostWith now s (goingOut now s (s .entries)))
     unfolding dueFor lostWith
-    due-counts = rw ed (sym (length-append (givenUp set (set .mode) (s .gaps)) _))
+    due-counts = rw ed (sym (length-append (givenUp set (s .gaps)) _))
 
     pub due-few : ascends (gapNumbers (s .gaps)) ≡ true → d .given + d .lost ≤ length (s .gaps)
     unfolding dueFor drained

@@ -49,13 +49,13 @@ module _ (now : ℕ) (q : Queue) (l : List Gap) (t : NackTimings) (et : t ≡ ti
   abbrev set : Settings
   set = q .config .settings
 
-  due-left : keep (due t now) (notGivenUp set (set .mode) l) ≡ dueGaps now q l
+  due-left : keep (due t now) (notGivenUp set l) ≡ dueGaps now q l
   unfolding dueGaps
   due-left = rw et refl
 
   -- 14, where the first k gaps are given up
-  module _ (k : ℕ) (ek : k ≡ length (givenUp set (set .mode) l)) (r : ℕ) (er : r ≡ countRefusal ((q .counters .lost + k) ∷ [])) where
-    lost-is : countRefusal ((q .counters .lost + length (givenUp set (set .mode) l)) ∷ []) ≡ r
+  module _ (k : ℕ) (ek : k ≡ length (givenUp set l)) (r : ℕ) (er : r ≡ countRefusal ((q .counters .lost + k) ∷ [])) where
+    lost-is : countRefusal ((q .counters .lost + length (givenUp set l)) ∷ []) ≡ r
     lost-is = sym (er ∙ ap (λ (i : ℕ). countRefusal ((q .counters .lost + i) ∷ [])) ek)
 
     pub lost-refused : (r ≡ 0 → ⊥) → r ≡ nacksRefusal now q l
@@ -81,9 +81,9 @@ module _ (now : ℕ) (q : Queue) (l : List Gap) (t : NackTimings) (et : t ≡ ti
 -- ---- after `drain`
 
 module _ (now : ℕ) (s : Session) (old g : List ℕ) (given : ℕ) (t : NackTimings) (h : Nacking now s old given t) (d : Session) (ed : d ≡ drainedSession now s (gapsOf old (s .gaps)))
-    (eg : g ≡ laid gapWords (length old) (notGivenUp (s .queue .config .settings) (s .queue .config .settings .mode) (gapsOf old (s .gaps)))) where
+    (eg : g ≡ laid gapWords (length old) (notGivenUp (s .queue .config .settings) (gapsOf old (s .gaps)))) where
   abbrev stay : List Gap
-  stay = notGivenUp (s .queue .config .settings) (s .queue .config .settings .mode) (gapsOf old (s .gaps))
+  stay = notGivenUp (s .queue .config .settings) (gapsOf old (s .gaps))
 
   count-is : d .gaps ≡ length stay
   unfolding drainedSession
@@ -105,13 +105,13 @@ module _ (now : ℕ) (s : Session) (old g : List ℕ) (given : ℕ) (t : NackTim
   left-instants =
       let set = s .queue .config .settings in
       let l = gapsOf old (s .gaps) in
-      ap (every? instantsFit) (read-is ∙ not-given-up set (set .mode) l) ∙ every-drop instantsFit (length (givenUp set (set .mode) l)) l (h .instants)
+      ap (every? instantsFit) (read-is ∙ not-given-up set (set .mode) l) ∙ every-drop instantsFit (length (givenUp set l)) l (h .instants)
 
   pub left-none-full : some? full (keep (due t now) (gapsOf g (d .gaps))) ≡ false
   left-none-full = ap (some? full) due-is ∙ h .none-full
 
-  pub left-count : (n : ℕ) → n ≡ length (keep (due t now) (gapsOf g (d .gaps))) → length (map truncated (dueGaps now (s .queue) (gapsOf old (s .gaps)))) ≡ n
-  left-count n e = length-map (dueGaps now (s .queue) (gapsOf old (s .gaps))) truncated ∙ sym (e ∙ ap length due-is)
+  pub left-count : (n : ℕ) → n ≡ length (keep (due t now) (gapsOf g (d .gaps))) → n ≡ length (dueGaps now (s .queue) (gapsOf old (s .gaps)))
+  left-count n e = e ∙ ap length due-is
 
   pub left-words : (g′ : List ℕ) → g′ ≡ laid gapWords (length g) (nackDue t now (gapsOf g (d .gaps))) → g′ ≡ laid gapWords (length old) (nackDue (timingsOf (s .queue)) now stay)
   left-words g′ e =
@@ -133,7 +133,7 @@ module _ (now : ℕ) (m : Stored) (h : Settled m) (out : List ℕ) where
   set′ = m .session .queue .config .settings
 
   nack-leaves : (d : Session) (g : List ℕ) → d ≡ drainedSession now (m .session) gaps
-      → g ≡ laid gapWords (length (m .storage .gaps)) (nackDue (timingsOf (m .session .queue)) now (notGivenUp set′ (set′ .mode) gaps))
+      → g ≡ laid gapWords (length (m .storage .gaps)) (nackDue (timingsOf (m .session .queue)) now (notGivenUp set′ gaps))
       → Leaves (afterPollNack now (parse m)) (m .storage) (stored d (m .storage .entries) (m .storage .payloads) g (m .storage .remembered))
   unfolding afterPollNack nackAll drainedSession drained parse write lose
   nack-leaves d g ed eg =
@@ -153,15 +153,15 @@ module _ (now : ℕ) (m : Stored) (h : Settled m) (out : List ℕ) where
 
   nack-accepted : (d : Session) (a : Answer) (g o : List ℕ)
       → d ≡ drainedSession now (m .session) gaps
-      → a ≡ nackAnswer (map truncated (dueGaps now (m .session .queue) gaps))
-      → g ≡ laid gapWords (length (m .storage .gaps)) (nackDue (timingsOf (m .session .queue)) now (notGivenUp set′ (set′ .mode) gaps))
+      → a ≡ nackAnswer (length (dueGaps now (m .session .queue) gaps))
+      → g ≡ laid gapWords (length (m .storage .gaps)) (nackDue (timingsOf (m .session .queue)) now (notGivenUp set′ gaps))
       → o ≡ over (map truncated (dueGaps now (m .session .queue) gaps)) out
       → accepted (pollNack now out) (parse m) ≡ record { answer = a; stored = stored d (m .storage .entries) (m .storage .payloads) g (m .storage .remembered); output = o }
   unfolding accepted answered taken outputAfter nackNumbers parse
   nack-accepted d a g o ed ea eg eo =
       let after : Stored = stored d (m .storage .entries) (m .storage .payloads) g (m .storage .remembered) in
       let w : after ≡ write (afterPollNack now (parse m)) = nack-written after (nack-leaves d g ed eg) in
-      ap (λ (x : Stored). record { answer = nackAnswer (map truncated (dueGaps now (m .session .queue) gaps)); stored = x; output = over (map truncated (dueGaps now (m .session .queue) gaps)) out }) (sym w)
+      ap (λ (x : Stored). record { answer = nackAnswer (length (dueGaps now (m .session .queue) gaps)); stored = x; output = over (map truncated (dueGaps now (m .session .queue) gaps)) out }) (sym w)
       ∙ ap (λ (x : Answer). record { answer = x; stored = after; output = over (map truncated (dueGaps now (m .session .queue) gaps)) out }) (sym ea)
       ∙ ap (λ (x : List ℕ). record { answer = a; stored = after; output = x }) (sym eo)
 
@@ -172,7 +172,7 @@ module _ (now : ℕ) (m : Stored) (h : sessionSound m ≡ true) (e p g r : List 
 
   nacking : (given : ℕ) (t : NackTimings)
       → q′ .clock ≤ largest
-      → given ≡ length (givenUp (q′ .config .settings) (q′ .config .settings .mode) (parse m .gaps))
+      → given ≡ length (givenUp (q′ .config .settings) (parse m .gaps))
       → t ≡ timingsOf q′
       → Small t
       → nacksRefusal now q′ (parse m .gaps) ≡ 0
@@ -183,7 +183,7 @@ module _ (now : ℕ) (m : Stored) (h : sessionSound m ≡ true) (e p g r : List 
       let set = q′ .config .settings in
       record {
         gaps-in = k .gaps-in;
-        given-are = eg ∙ ap (λ (l : List Gap). length (givenUp set (set .mode) l)) (sym (k .gaps-are));
+        given-are = eg ∙ ap (λ (l : List Gap). length (givenUp set l)) (sym (k .gaps-are));
         timings-are = et;
         small = small;
         lost-fits = lost-in m (k .checked);
@@ -201,7 +201,7 @@ module _ (now : ℕ) (m : Stored) (out : List ℕ) where
   abbrev listed : List Gap
   listed = gapsOf (m .storage .gaps) (m .session .gaps)
 
-  checks : callRefusal (pollNack now out) (parse m) ≡ orElse (outputRefusal places out) (orElse (clockRefusal q now) (nacksRefusal now q listed))
+  checks : callRefusal (pollNack now out) (parse m) ≡ orElse (outputRefusal places (length out)) (orElse (clockRefusal q now) (nacksRefusal now q listed))
   unfolding callRefusal pollNackRefusal parse
   checks = refl
 
@@ -235,7 +235,7 @@ module _ (now : ℕ) (m : Stored) (out : List ℕ) where
 
         -- the storage that is settled
         module _ (n : b ≡ 0) (e′ p g r′ : List ℕ) (w : stored (m .session) e′ p g r′ ≡ write (parse m)) where
-          pub nack-taken : (given : ℕ) (t : NackTimings) → given ≡ length (givenUp (q .config .settings) (q .config .settings .mode) listed) → t ≡ timingsOf q → Small t
+          pub nack-taken : (given : ℕ) (t : NackTimings) → given ≡ length (givenUp (q .config .settings) listed) → t ≡ timingsOf q → Small t
               → Nacking now (m .session) g given t × (m .session .gaps ≤ length out)
           unfolding parse
           nack-taken given t eg et small =
@@ -244,8 +244,8 @@ module _ (now : ℕ) (m : Stored) (out : List ℕ) where
 
           pub nack-done : (d : Session) (a : Answer) (g′ o : List ℕ)
               → d ≡ drainedSession now (m .session) (gapsOf g (m .session .gaps))
-              → a ≡ nackAnswer (map truncated (dueGaps now q (gapsOf g (m .session .gaps))))
-              → g′ ≡ laid gapWords (length g) (nackDue (timingsOf q) now (notGivenUp (q .config .settings) (q .config .settings .mode) (gapsOf g (m .session .gaps))))
+              → a ≡ nackAnswer (length (dueGaps now q (gapsOf g (m .session .gaps))))
+              → g′ ≡ laid gapWords (length g) (nackDue (timingsOf q) now (notGivenUp (q .config .settings) (gapsOf g (m .session .gaps))))
               → o ≡ over (map truncated (dueGaps now q (gapsOf g (m .session .gaps)))) out
               → Does (pollNack now out) m a (stored d e′ p g′ r′) o
           nack-done d a g′ o hd ha hg ho =

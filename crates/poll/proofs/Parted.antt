@@ -14,7 +14,7 @@ use Rattle.model.specs.declared.Queue.{Queue}
 use Rattle.model.specs.declared.Session.{Session}
 use Rattle.model.specs.Records.{Gap, gapNumbers, withClock}
 use Rattle.model.specs.Rules.{tried}
-use Rattle.model.specs.Poll.{lose, givenUp, notGivenUp, lostBelow, leftFrom}
+use Rattle.model.specs.Poll.{lose, givenUp, givenUpIn, notGivenUp, notGivenUpIn, lostBelow, leftFrom}
 use Rattle.model.specs.Storage.{gapsOf}
 use Rattle.model.proofs.Laid.{length-gapsOf}
 use Rattle.packet_gaps.proofs.Model.{below-parts, leading-front}
@@ -23,20 +23,20 @@ use Rattle.poll.specs.Steps.{drainedSession}
 -- ---- given up
 
 module _ (set : Settings) where
-  pub given-up-le : (mode : RtpInboundQueueMode) (l : List Gap) → length (givenUp set mode l) ≤ length l
-  unfolding givenUp
+  pub given-up-le : (mode : RtpInboundQueueMode) (l : List Gap) → length (givenUpIn mode set l) ≤ length l
+  unfolding givenUpIn
   given-up-le Passthrough l = let f = leading-front (tried (set .«max_nack_attempts»)) l in omega (arith, ap length (f .0), length-take (length (leading (tried (set .«max_nack_attempts»)) l)) l)
   given-up-le SortedQueue l = omega arith
 
-  pub not-given-up : (mode : RtpInboundQueueMode) (l : List Gap) → notGivenUp set mode l ≡ drop (length (givenUp set mode l)) l
-  unfolding givenUp notGivenUp
+  pub not-given-up : (mode : RtpInboundQueueMode) (l : List Gap) → notGivenUpIn mode set l ≡ drop (length (givenUpIn mode set l)) l
+  unfolding givenUpIn notGivenUpIn
   not-given-up Passthrough l = leading-front (tried (set .«max_nack_attempts»)) l .1
   not-given-up SortedQueue l = refl
 
-  pub length-not-given-up : (mode : RtpInboundQueueMode) (l : List Gap) → length (notGivenUp set mode l) ≡ length l - length (givenUp set mode l)
-  length-not-given-up mode l = ap length (not-given-up mode l) ∙ length-drop (length (givenUp set mode l)) l
+  pub length-not-given-up : (mode : RtpInboundQueueMode) (l : List Gap) → length (notGivenUpIn mode set l) ≡ length l - length (givenUpIn mode set l)
+  length-not-given-up mode l = ap length (not-given-up mode l) ∙ length-drop (length (givenUpIn mode set l)) l
 
-pub given-few : (q : Queue) (words : List ℕ) (n k : ℕ) → k ≡ length (givenUp (q .config .settings) (q .config .settings .mode) (gapsOf words n)) → k ≤ n
+pub given-few : (q : Queue) (words : List ℕ) (n k : ℕ) → k ≡ length (givenUp (q .config .settings) (gapsOf words n)) → k ≤ n
 given-few q words n k e = omega (arith, e, given-up-le (q .config .settings) (q .config .settings .mode) (gapsOf words n), length-gapsOf words n)
 
 -- ---- below the one handed out
@@ -57,10 +57,10 @@ module _ (x : ℕ) (l : List Gap) (a : ascends (gapNumbers l) ≡ true) where
 
 -- ---- the session after `drain`
 
-pub drained-is : (now : ℕ) (s : Session) (l : List Gap) (k : ℕ) (q : Queue) → length l ≡ s .gaps → k ≡ length (givenUp (s .queue .config .settings) (s .queue .config .settings .mode) l)
+pub drained-is : (now : ℕ) (s : Session) (l : List Gap) (k : ℕ) (q : Queue) → length l ≡ s .gaps → k ≡ length (givenUp (s .queue .config .settings) l)
     → q ≡ lose k (withClock (s .queue) now) → record { queue = q; entries = s .entries; gaps = s .gaps - k; remembered = s .remembered } ≡ drainedSession now s l
 unfolding drainedSession
 drained-is now s l k q en ek eq =
     let set = s .queue .config .settings in
-    let z : s .gaps - k ≡ length (notGivenUp set (set .mode) l) = omega (arith, length-not-given-up set (set .mode) l, en, ek) in
+    let z : s .gaps - k ≡ length (notGivenUp set l) = omega (arith, length-not-given-up set (set .mode) l, en, ek) in
     rw (z, eq, ek)

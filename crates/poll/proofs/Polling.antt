@@ -43,7 +43,7 @@ firstOf m = entryOf (take ENTRY-WORDS (drop (ENTRY-WORDS * 0) (m .storage .entri
 
 module _ (now : ℕ) (m : Stored) (h : Settled m) (due : Due) (ed : due ≡ dueFor now (parse m)) where
   pub drains : GapsIn (m .storage .gaps) (m .session .gaps)
-      × (due .given ≡ length (givenUp (m .session .queue .config .settings) (m .session .queue .config .settings .mode) (gapsOf (m .storage .gaps) (m .session .gaps)))
+      × (due .given ≡ length (givenUp (m .session .queue .config .settings) (gapsOf (m .storage .gaps) (m .session .gaps)))
       × (m .session .queue .counters .lost + m .session .gaps < 2 ^ 64))
   unfolding dueFor parse
   drains =
@@ -56,7 +56,7 @@ module _ (now : ℕ) (m : Stored) (h : Settled m) (due : Due) (ed : due ≡ dueF
 
   module _ (out g : List ℕ) (s : Session)
       (es : s ≡ drainedSession now (m .session) (gapsOf (m .storage .gaps) (m .session .gaps)))
-      (eg : g ≡ laid gapWords (length (m .storage .gaps)) (notGivenUp (m .session .queue .config .settings) (m .session .queue .config .settings .mode) (gapsOf (m .storage .gaps) (m .session .gaps)))) where
+      (eg : g ≡ laid gapWords (length (m .storage .gaps)) (notGivenUp (m .session .queue .config .settings) (gapsOf (m .storage .gaps) (m .session .gaps)))) where
     -- after `drain`
     abbrev after : Stored
     after = stored s (m .storage .entries) (m .storage .payloads) g (m .storage .remembered)
@@ -97,7 +97,7 @@ module _ (now : ℕ) (m : Stored) (h : Settled m) (due : Due) (ed : due ≡ dueF
           let set = m .session .queue .config .settings in
           let before = gapsOf (m .storage .gaps) (m .session .gaps) in
           let out-is : goingOut now (parse m) (parse m .entries) ≡ firstOf m ∷ [] = front-is now (parse m) (parse m .entries) (due .«goes_out») eb ∙ rw z first in
-          let left : gapsOf g (length (notGivenUp set (set .mode) before)) ≡ notGivenUp set (set .mode) before = gaps-left (m .session) (m .storage .gaps) g (holding m h .gaps-in .room) eg in
+          let left : gapsOf g (length (notGivenUp set before)) ≡ notGivenUp set before = gaps-left (m .session) (m .storage .gaps) g (holding m h .gaps-in .room) eg in
           ap (λ (d : Due). d .lost) ed ∙ rw (out-is, first-after, es, left)
 
       handed-written : (m′ : Stored) → Leaves (handOut (firstOf m ∷ []) (drained now (parse m))) (after .storage) m′ → m′ ≡ write (handOut (firstOf m ∷ []) (drained now (parse m)))
@@ -128,7 +128,7 @@ module _ (now : ℕ) (m : Stored) (out : List ℕ) where
   abbrev counts : ℕ
   counts = countRefusal ((m .session .queue .counters .lost + length (lostWith now (parse m) (goingOut now (parse m) (parse m .entries)))) ∷ [])
 
-  checks : callRefusal (poll now out) (parse m) ≡ orElse (outputRefusal LARGEST-PAYLOAD out) (orElse (clockRefusal (m .session .queue) now) counts)
+  checks : callRefusal (poll now out) (parse m) ≡ orElse (outputRefusal LARGEST-PAYLOAD (length out)) (orElse (clockRefusal (m .session .queue) now) counts)
   unfolding callRefusal pollRefusal parse
   checks = refl
 

@@ -41,18 +41,18 @@ pub record Leaves (s : State) (t : Storage) (m : Stored) : Type 0 where
 unfoldable pub drainedSession : ℕ → Session → List Gap → Session
 drainedSession now s gaps =
     let set = s .queue .config .settings in
-    record { queue = drainedQueue now (s .queue) gaps; entries = s .entries; gaps = length (notGivenUp set (set .mode) gaps); remembered = s .remembered }
+    record { queue = drainedQueue now (s .queue) gaps; entries = s .entries; gaps = length (notGivenUp set gaps); remembered = s .remembered }
 
 -- what `poll` does, by counts: the gaps given up, whether the front entry goes out, and the gaps lost below it
 unfoldable pub dueFor : ℕ → State → Due
 dueFor now s =
     let set = s .queue .config .settings in
-    record { given = length (givenUp set (set .mode) (s .gaps)); «goes_out» = handsOut now (s .queue) (s .entries); lost = length (lostUnder (set .mode) (goingOut now s (s .entries)) (drained now s .gaps)) }
+    record { given = length (givenUp set (s .gaps)); «goes_out» = handsOut now (s .queue) (s .entries); lost = length (lostUnder (set .mode) (goingOut now s (s .entries)) (drained now s .gaps)) }
 
 -- each gap can be NACKed that is due by these timings, once the first ones are given up
 pub record Nacking (now : ℕ) (s : Session) (gaps : List ℕ) (given : ℕ) (timings : NackTimings) : Type 0 where
   pub gaps-in : GapsIn gaps (s .gaps)
-  pub given-are : given ≡ length (givenUp (s .queue .config .settings) (s .queue .config .settings .mode) (gapsOf gaps (s .gaps)))
+  pub given-are : given ≡ length (givenUp (s .queue .config .settings) (gapsOf gaps (s .gaps)))
   pub timings-are : timings ≡ timingsOf (s .queue)
   pub small : Small timings
   pub lost-fits : s .queue .counters .lost + s .gaps < 2 ^ 64

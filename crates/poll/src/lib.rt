@@ -74,7 +74,7 @@ struct Due {
 
 // 15: the output has less room than the call needs.
 fn output_refusal(needed: usize, room: usize) -> u64
-    ensures { λ r. ⌜ ((out : List ℕ) → length out ≡ room → r ≡ outputRefusal needed out) ⌝ }
+    ensures { λ r. ⌜ r ≡ outputRefusal needed room ⌝ }
 {
     if room < needed {
         return refusals::OUTPUT;
@@ -84,7 +84,7 @@ fn output_refusal(needed: usize, room: usize) -> u64
 
 // 15, then 8
 pub(crate) fn output_and_clock_refusal(q: Queue, instant: u64, needed: usize, room: usize) -> u64
-    ensures { λ r. ⌜ ((out : List ℕ) → length out ≡ room → r ≡ orElse (outputRefusal needed out) (clockRefusal q instant)) ⌝ }
+    ensures { λ r. ⌜ r ≡ orElse (outputRefusal needed room) (clockRefusal q instant) ⌝ }
 {
     let short = output_refusal(needed, room);
     let late = checks::clock_refusal(q, instant);
@@ -94,7 +94,7 @@ pub(crate) fn output_and_clock_refusal(q: Queue, instant: u64, needed: usize, ro
 // How many gaps at the front are given up.
 pub(crate) fn given_up(q: Queue, gaps: &[u64], n: usize) -> usize
     requires { ⌜ GAP-WORDS * n ≤ length (now gaps) ⌝ }
-    ensures { λ r. ⌜ r ≡ length (givenUp (q .config .settings) (q .config .settings .mode) (gapsOf (now (gaps .entry)) n)) ⌝ }
+    ensures { λ r. ⌜ r ≡ length (givenUp (q .config .settings) (gapsOf (now (gaps .entry)) n)) ⌝ }
 {
     let config = q.config;
     let settings = config.settings;
@@ -122,10 +122,10 @@ fn take_front(gaps: &mut [u64], n: usize, k: usize)
 // The clock, then `drain_lost`: the gaps that are given up go.
 pub(crate) fn drain(s: Session, gaps: &mut [u64], given: usize, instant: u64) -> Session
     requires { ⌜ GapsIn (now gaps) (s .gaps) ⌝ }
-    requires { ⌜ given ≡ length (givenUp (s .queue .config .settings) (s .queue .config .settings .mode) (gapsOf (now gaps) (s .gaps))) ⌝ }
+    requires { ⌜ given ≡ length (givenUp (s .queue .config .settings) (gapsOf (now gaps) (s .gaps))) ⌝ }
     requires { ⌜ s .queue .counters .lost + s .gaps < 2 ^ 64 ⌝ }
     ensures { λ r. ⌜ r ≡ drainedSession instant s (gapsOf (now (gaps .entry)) (s .gaps)) ⌝ }
-    ensures { λ _. ⌜ now (gaps .exit) ≡ laid gapWords (length (now (gaps .entry))) (notGivenUp (s .queue .config .settings) (s .queue .config .settings .mode) (gapsOf (now (gaps .entry)) (s .gaps))) ⌝ }
+    ensures { λ _. ⌜ now (gaps .exit) ≡ laid gapWords (length (now (gaps .entry))) (notGivenUp (s .queue .config .settings) (gapsOf (now (gaps .entry)) (s .gaps))) ⌝ }
 {
     let drained = session::poll::drained(s.queue, instant, given as u64);
     take_front(gaps, s.gaps, given);

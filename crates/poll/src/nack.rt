@@ -34,7 +34,7 @@ pub struct PolledNack {
 // 14: the numbers lost, then a NACK count.
 fn count_refusal(s: Session, gaps: &[u64], given: usize, timings: NackTimings, instant: u64) -> u64
     requires { ⌜ GAP-WORDS * s .gaps ≤ length (now gaps) ⌝ }
-    requires { ⌜ given ≡ length (givenUp (s .queue .config .settings) (s .queue .config .settings .mode) (gapsOf (now gaps) (s .gaps))) ⌝ }
+    requires { ⌜ given ≡ length (givenUp (s .queue .config .settings) (gapsOf (now gaps) (s .gaps))) ⌝ }
     requires { ⌜ timings ≡ timingsOf (s .queue) ⌝ }
     requires { ⌜ Small timings ⌝ }
     requires { ⌜ every? instantsFit (gapsOf (now gaps) (s .gaps)) ≡ true ⌝ }
@@ -52,7 +52,7 @@ fn count_refusal(s: Session, gaps: &[u64], given: usize, timings: NackTimings, i
 }
 
 fn answer_of(count: usize) -> NackAnswer
-    ensures { λ r. ⌜ ((numbers : List ℕ) → length numbers ≡ count → Answers.nackAnswer r ≡ Calls.nackAnswer numbers) ⌝ }
+    ensures { λ r. ⌜ Answers.nackAnswer r ≡ Calls.nackAnswer count ⌝ }
 {
     if count == 0 {
         return NackAnswer::Nothing;
@@ -72,8 +72,8 @@ fn accept(
     requires { ⌜ Nacking instant s (now gaps) given timings ⌝ }
     requires { ⌜ s .gaps ≤ length (now out) ⌝ }
     ensures { λ r. ⌜ r .session ≡ drainedSession instant s (gapsOf (now (gaps .entry)) (s .gaps)) ⌝ }
-    ensures { λ r. ⌜ Answers.nackAnswer (r .answer) ≡ Calls.nackAnswer (map truncated (dueGaps instant (s .queue) (gapsOf (now (gaps .entry)) (s .gaps)))) ⌝ }
-    ensures { λ r. ⌜ now (gaps .exit) ≡ laid gapWords (length (now (gaps .entry))) (nackDue (timingsOf (s .queue)) instant (notGivenUp (s .queue .config .settings) (s .queue .config .settings .mode) (gapsOf (now (gaps .entry)) (s .gaps)))) ⌝ }
+    ensures { λ r. ⌜ Answers.nackAnswer (r .answer) ≡ Calls.nackAnswer (length (dueGaps instant (s .queue) (gapsOf (now (gaps .entry)) (s .gaps)))) ⌝ }
+    ensures { λ r. ⌜ now (gaps .exit) ≡ laid gapWords (length (now (gaps .entry))) (nackDue (timingsOf (s .queue)) instant (notGivenUp (s .queue .config .settings) (gapsOf (now (gaps .entry)) (s .gaps)))) ⌝ }
     ensures { λ r. ⌜ now (out .exit) ≡ over (map truncated (dueGaps instant (s .queue) (gapsOf (now (gaps .entry)) (s .gaps)))) (now (out .entry)) ⌝ }
 {
     let drained = super::drain(s, gaps, given, instant);

@@ -7,24 +7,23 @@ use native.Mathlib.Omega.{arith}
 use lib.Dec.{T, leb, ltb, lit<, nltb→le, nleb→lt}
 use lib.Ieee.Bits.{is-true}
 use lib.ListN.{length, drop, length-drop}
-use borrow.Author.Tests.{lt-ltb, le-ltb, lt-leb, le-leb, ltb-true, ltb-false}
+use borrow.Author.Tests.{lt-ltb, le-ltb, le-leb}
 use Rattle.words.specs.Blocks.{laid}
 use Rattle.words.specs.Order.{ascends}
 use Rattle.rtp.specs.declared.opt.Opt.{Opt}
 use Rattle.durations.specs.Seconds.{largest}
 use Rattle.refusals.specs.Refusals.{GAPS-FULL, orElse}
 use Rattle.refusals.proofs.Laws.{orElse-none}
-use Rattle.packet_loss.specs.Loss.{recordReceived}
 use Rattle.config.specs.declared.Settings.{Settings}
 use Rattle.model.specs.declared.Queue.{Queue}
 use Rattle.model.specs.declared.Session.{Session}
-use Rattle.model.specs.Records.{Entry, Gap, State, gapNumbers, highestOf, withLoss, withCounters, withLast, withReturned}
+use Rattle.model.specs.Records.{Entry, Gap, State, gapNumbers, highestOf}
 use Rattle.model.specs.Rules.{is, without, gapsFrom, fresh, Place, near, waits, between, gapsAfter}
-use Rattle.model.specs.Push.{insertSorted, mediaPlace, heard, lastAfter, countDropped, countReceived, afterQueued, afterDropped, frontOut, overfull, withinDepth, afterPlaced}
+use Rattle.model.specs.Push.{insertSorted, mediaPlace, heard, countReceived, queueDropped, queueQueued, queuePushedOut, afterQueued, afterDropped, frontOut, overfull, withinDepth, afterPlaced}
 use Rattle.model.specs.Storage.{Stored, GAP-WORDS, entryWords, payloadBytes, gapWords, entryPlaces, entriesOf, gapsOf, entriesLaid, payloadsLaid, gapsLaid, rememberedLaid, parse, write}
-use Rattle.model.specs.Table.{mediaValues, tooManyGaps, countRefusal, refuseIf, packetRefusal}
+use Rattle.model.specs.Table.{atDepth, mediaValues, tooManyGaps, countRefusal, refuseIf, packetRefusal}
 use Rattle.model.proofs.Lists.{Each, each-first, each-rest, each-imp, each-map, each-following, by-nand, Rising, empty, rising-keep, rising-append, rising-map, rising-following, ascends-of-rising, length-keep, length-insert}
-use Rattle.model.proofs.Laid.{gap-wide, length-words, gapsOf-laid, length-entriesOf, length-gapsOf, length-rememberedOf}
+use Rattle.model.proofs.Laid.{parse-entries, gap-wide, length-words, gapsOf-laid, length-entriesOf, length-gapsOf, length-rememberedOf}
 use Rattle.model.proofs.Sound.{Under}
 use Rattle.model.proofs.SoundQueue.{not-refused, counts-of}
 use Rattle.model.proofs.SoundPush.{Stands, is-first, is-near, is-far, is-gap, is-other, waiting-stands}
@@ -35,7 +34,7 @@ use Rattle.entries.specs.Entries.{entry, firstNumber}
 use Rattle.session.specs.declared.push.Place as Code
 use Rattle.session.specs.Place.{place}
 use Rattle.model.specs.Contract.{stored}
-use Rattle.push.specs.Media.{Counts, Takes, Fit}
+use Rattle.push.specs.Media.{Takes, Fit}
 use Rattle.storage.proofs.Settled.{Ready, holding}
 use Rattle.push.proofs.Placing.{length-opened}
 
@@ -48,7 +47,7 @@ unfolding write
 written-as t s e p g r hq he hg hr es ps gs rs = rw (← es, ← ps, ← gs, ← rs, ← hq, ← he, ← hg, ← hr)
 
 frontOut-is : (l : List Entry) (t : State) → 0 < length l
-    → frontOut l t ≡ record { queue = withReturned (withCounters (t .queue) (countDropped (t .queue .counters))) (firstNumber l); entries = drop 1 l; gaps = gapsFrom (firstNumber l) (t .gaps); remembered = t .remembered }
+    → frontOut l t ≡ record { queue = queuePushedOut (firstNumber l) (t .queue); entries = drop 1 l; gaps = gapsFrom (firstNumber l) (t .gaps); remembered = t .remembered }
 unfolding frontOut firstNumber
 frontOut-is [] t h = absurd (omega arith)
 frontOut-is (x ∷ xs) t h = refl
@@ -69,25 +68,16 @@ rising-after now is-other r u = r
 
 -- ---- 14, then 12
 
-deep : (d n : ℕ) → ltb d (suc n) ≡ leb d n
-deep d n = go (ltb d (suc n)) refl
-  where
-    go : (b : Bool) → ltb d (suc n) ≡ b → b ≡ leb d n
-    go true e = sym (le-leb d n (omega (arith, ltb-true d (suc n) e)))
-    go false e = sym (lt-leb d n (omega (arith, ltb-false d (suc n) e)))
-
 module _ (s : Session) (e : Row.Entry) (p : Code.Place) where
-  pub packet-refusal-is : (r a b : ℕ) (w full : Bool) → r ≡ orElse a b → w ≡ waits (place p) → full ≡ leb (s .queue .config .settings .«max_entries») (s .entries) → a ≡ countRefusal (e .timestamp .0 ∷ e .number .0 ∷ mediaValues (s .queue .counters) (e .size) w full)
-      → ((l : List Gap) → length l ≡ s .gaps → b ≡ refuseIf (tooManyGaps (s .queue .config .settings) l (e .number .0) (place p)) GAPS-FULL)
-      → (instant : ℕ) (payload : List ℕ) (st : State) → Counts s st → length payload ≡ e .size → r ≡ packetRefusal instant (entry e payload) (place p) st
-  unfolding packetRefusal overfull afterQueued heard
-  packet-refusal-is r a b w full hr hw hf ha hb instant payload st k size =
-      let n : length (insertSorted (entry e payload) (st .entries)) ≡ suc (s .entries) = length-insert (entry e payload) (st .entries) ∙ ap suc (k .entries) in
-      hr ∙ rw (ha, hw, hf, hb (st .gaps) (k .gaps), k .queue, n, size, deep)
+  pub packet-refusal-is : (r a b : ℕ) (w full : Bool) → r ≡ orElse a b → w ≡ waits (place p) → full ≡ atDepth (s .queue .config .settings) (s .entries) → a ≡ countRefusal (e .timestamp .0 ∷ e .number .0 ∷ mediaValues (s .queue .counters) (e .size) w full)
+      → b ≡ refuseIf (tooManyGaps (s .queue .config .settings) (s .gaps) (e .number .0) (place p)) GAPS-FULL
+      → r ≡ packetRefusal (s .queue) (s .entries) (s .gaps) (e .timestamp .0) (e .number .0) (e .size) (place p)
+  unfolding packetRefusal
+  packet-refusal-is r a b w full hr hw hf ha hb = hr ∙ rw (ha, hw, hf, hb)
 
 -- ---- an accepted packet
 
-module _ (instant : ℕ) (e : Row.Entry) (payload : List ℕ) (p : Code.Place) (m : Stored) (f : Fit instant e payload p m) where
+module _ (instant : ℕ) (e : Row.Entry) (payload : List ℕ) (p : Code.Place) (m : Stored) (f : Fit e payload p m) where
   abbrev x : Entry
   x = entry e payload
 
@@ -95,13 +85,13 @@ module _ (instant : ℕ) (e : Row.Entry) (payload : List ℕ) (p : Code.Place) (
   ready-for = holding m (f .settled)
 
   abbrev raises : List ℕ
-  raises = x .timestamp ∷ x .number ∷ mediaValues (parse m .queue .counters) (length payload) (waits (place p)) (overfull (afterQueued instant x (place p) (parse m)))
+  raises = x .timestamp ∷ x .number ∷ mediaValues (parse m .queue .counters) (length payload) (waits (place p)) (atDepth (parse m .queue .config .settings) (length (parse m .entries)))
 
   values : Each (λ v. v ≤ largest) raises
   unfolding packetRefusal
   values = counts-of raises (orElse-none _ _ (f .accepted) .0)
 
-  few-gaps : T (not (tooManyGaps (parse m .queue .config .settings) (parse m .gaps) (e .number .0) (place p)))
+  few-gaps : T (not (tooManyGaps (parse m .queue .config .settings) (length (parse m .gaps)) (e .number .0) (place p)))
   unfolding packetRefusal
   few-gaps = not-refused _ GAPS-FULL (lit< tt) (orElse-none (countRefusal raises) _ (f .accepted) .1)
 
@@ -137,7 +127,7 @@ module _ (instant : ℕ) (e : Row.Entry) (payload : List ℕ) (p : Code.Place) (
         l : List Gap
         l = gapsOf (m .storage .gaps) (m .session .gaps)
 
-        room : (h : ℕ) → h < e .number .0 → T (not (tooManyGaps set l (e .number .0) (near h))) → GAP-WORDS * (m .session .gaps + (e .number .0 - (h + 1))) ≤ length (m .storage .gaps)
+        room : (h : ℕ) → h < e .number .0 → T (not (tooManyGaps set (length l) (e .number .0) (near h))) → GAP-WORDS * (m .session .gaps + (e .number .0 - (h + 1))) ≤ length (m .storage .gaps)
         room h lt t =
             let k : length l ≡ m .session .gaps = length-gapsOf (m .storage .gaps) (m .session .gaps) in
             let size : length (m .storage .gaps) ≡ GAP-WORDS * set .«max_gaps» = ready-for .lengths .gaps in
@@ -146,7 +136,7 @@ module _ (instant : ℕ) (e : Row.Entry) (payload : List ℕ) (p : Code.Place) (
             (λ few. omega (arith, nltb→le (set .«max_gaps») (length l + ((e .number .0 - h) - 1)) few))
             (λ one. omega (arith, nleb→lt 2 (e .number .0 - h) one))
 
-        go : {q : Place} → Stands (highestOf (m .session .queue .last)) l (e .number .0) q → T (not (tooManyGaps set l (e .number .0) q)) → Takes (m .storage .gaps) (m .session .gaps) (e .number .0) q
+        go : {q : Place} → Stands (highestOf (m .session .queue .last)) l (e .number .0) q → T (not (tooManyGaps set (length l) (e .number .0) q)) → Takes (m .storage .gaps) (m .session .gaps) (e .number .0) q
         go (is-first at) t = tt
         go (is-near {h = h} at lt) t = (lt, room h lt t)
         go (is-far at lt) t = tt
@@ -175,7 +165,7 @@ module _ (instant : ℕ) (e : Row.Entry) (payload : List ℕ) (p : Code.Place) (
     remembered-is = ap (λ (y : Stored). y .storage .remembered) (f .settled .held)
 
     module _ (q : Queue) (k : ℕ) (gs : List ℕ)
-        (hq : q ≡ withLoss (withCounters (withLast (heard instant (e .timestamp .0) (m .session .queue)) (lastAfter instant (e .timestamp .0) (e .number .0) (place p) (m .session .queue .last))) (countReceived (e .size) (m .session .queue .counters))) (recordReceived (m .session .queue .loss)))
+        (hq : q ≡ queueQueued instant (e .timestamp .0) (e .number .0) (e .size) (place p) (m .session .queue))
         (hk : k ≡ length opened) (hg : gs ≡ laid gapWords (length (m .storage .gaps)) opened) where
       queued-is : q ≡ after .queue
       unfolding afterQueued heard parse
@@ -202,14 +192,15 @@ module _ (instant : ℕ) (e : Row.Entry) (payload : List ℕ) (p : Code.Place) (
       at-depth : overfull after ≡ true
       at-depth = over-is ∙ lt-ltb (m .session .queue .config .settings .«max_entries») (suc (m .session .entries)) (omega arith)
 
-      placed-over : afterPlaced instant x (place p) (parse m) ≡ record { queue = withReturned (withCounters (after .queue) (countDropped (after .queue .counters))) (firstNumber grown); entries = drop 1 grown; gaps = gapsFrom (firstNumber grown) (after .gaps); remembered = after .remembered }
+      placed-over : afterPlaced instant x (place p) (parse m) ≡ record { queue = queuePushedOut (firstNumber grown) (after .queue); entries = drop 1 grown; gaps = gapsFrom (firstNumber grown) (after .gaps); remembered = after .remembered }
       unfolding afterPlaced withinDepth afterQueued
       placed-over = let o : overfull after ≡ true = at-depth in rw (w, o) (frontOut-is grown after (omega (arith, length-insert x (parse m .entries))))
 
       front-fits : m .session .queue .counters .dropped < largest
       unfolding mediaValues parse
       front-fits =
-          let o : overfull after ≡ true = at-depth in
+          let n : length (parse m .entries) ≡ m .session .entries = parse-entries m in
+          let o : atDepth (m .session .queue .config .settings) (length (parse m .entries)) ≡ true = le-leb (m .session .queue .config .settings .«max_entries») (length (parse m .entries)) (omega arith) in
           let k = rw (w, o) at (each-rest (each-rest values)) in
           omega (arith, each-first (each-rest (each-rest k)))
 
@@ -252,13 +243,13 @@ module _ (instant : ℕ) (e : Row.Entry) (payload : List ℕ) (p : Code.Place) (
       opened-ascend = ap (λ (l : List Gap). ascends (gapNumbers l)) opened-are ∙ gaps-ascend-after
 
     module _ (high : m .session .queue .config .settings .«max_entries» ≤ m .session .entries) (q q2 : Queue) (k k2 front : ℕ) (gs gs2 es ps : List ℕ)
-        (hq : q ≡ withLoss (withCounters (withLast (heard instant (e .timestamp .0) (m .session .queue)) (lastAfter instant (e .timestamp .0) (e .number .0) (place p) (m .session .queue .last))) (countReceived (e .size) (m .session .queue .counters))) (recordReceived (m .session .queue .loss)))
+        (hq : q ≡ queueQueued instant (e .timestamp .0) (e .number .0) (e .size) (place p) (m .session .queue))
         (hk : k ≡ length opened) (hg : gs ≡ laid gapWords (length (m .storage .gaps)) opened) where
       pub still-fits : q .counters .dropped < largest
       unfolding countReceived
       still-fits = let d : q .counters .dropped ≡ m .session .queue .counters .dropped = ap (λ (y : Queue). y .counters .dropped) hq in omega (arith, d, front-fits high)
 
-      pub pushed-out-packet : q2 ≡ withReturned (withCounters q (countDropped (q .counters))) front
+      pub pushed-out-packet : q2 ≡ queuePushedOut front q
           → front ≡ firstNumber (insertSorted x (entriesOf (m .storage .entries) (m .storage .payloads) (m .session .entries)))
           → es ≡ laid entryWords (length (m .storage .entries)) (drop 1 (insertSorted x (entriesOf (m .storage .entries) (m .storage .payloads) (m .session .entries))))
           → ps ≡ laid payloadBytes (length (m .storage .payloads)) (drop 1 (insertSorted x (entriesOf (m .storage .entries) (m .storage .payloads) (m .session .entries))))
@@ -272,7 +263,7 @@ module _ (instant : ℕ) (e : Row.Entry) (payload : List ℕ) (p : Code.Place) (
           let left : gapsFrom front (gapsOf gs k) ≡ gapsFrom (firstNumber (insertSorted x old)) opened = rw (hf, opened-are k gs hk hg) in
           let cap : length gs ≡ GAP-WORDS * m .session .queue .config .settings .«max_gaps» = opened-length k gs hk hg ∙ l .gaps in
           let q-is : q ≡ after .queue = queued-is q k gs hq hk hg in
-          written-as (record { queue = withReturned (withCounters (after .queue) (countDropped (after .queue .counters))) (firstNumber (insertSorted x old)); entries = drop 1 (insertSorted x old); gaps = gapsFrom (firstNumber (insertSorted x old)) opened; remembered = after .remembered })
+          written-as (record { queue = queuePushedOut (firstNumber (insertSorted x old)) (after .queue); entries = drop 1 (insertSorted x old); gaps = gapsFrom (firstNumber (insertSorted x old)) opened; remembered = after .remembered })
           (record { queue = q2; entries = m .session .entries; gaps = k2; remembered = m .session .remembered }) es ps gs2 (m .storage .remembered)
           (hq2 ∙ rw (hf, q-is)) n (hk2 ∙ ap length left) (sym (length-rememberedOf (m .storage .remembered) (m .session .remembered)))
           (he ∙ rw (l .entries)) (hp ∙ rw (l .payloads)) (hg2 ∙ rw (left, cap)) remembered-is
@@ -280,7 +271,7 @@ module _ (instant : ℕ) (e : Row.Entry) (payload : List ℕ) (p : Code.Place) (
 
   -- ---- dropped, or queued
 
-  pub dropped-packet : waits (place p) ≡ false → (q : Queue) → q ≡ withCounters (heard instant (e .timestamp .0) (m .session .queue)) (countDropped (m .session .queue .counters))
+  pub dropped-packet : waits (place p) ≡ false → (q : Queue) → q ≡ queueDropped instant (e .timestamp .0) (m .session .queue)
       → stored (record { queue = q; entries = m .session .entries; gaps = m .session .gaps; remembered = m .session .remembered }) (m .storage .entries) (m .storage .payloads) (m .storage .gaps) (m .storage .remembered) ≡ write (afterPlaced instant x (place p) (parse m))
   unfolding afterPlaced afterDropped heard parse write
   dropped-packet w q hq =

@@ -15,23 +15,31 @@ use Rattle.rtp_packet.specs.Header.{between, payloadOf}
 use Rattle.rtp_packet.specs.Datagram.{LARGEST-PAYLOAD, datagramRefusal, packetOf}
 use Rattle.rtp_packet.proofs.Bounds.{payload-of-packet}
 use Rattle.model.specs.Records.{State}
-use Rattle.model.specs.Push.{extendedEntry, mediaEntry, mediaPlace, afterPlaced, afterMedia}
+use Rattle.model.specs.Rules.{Place}
+use Rattle.model.specs.Push.{Fate, extendedEntry, mediaEntry, mediaPlace, afterPlaced, afterMedia}
 use Rattle.model.specs.Storage.{Stored, arrivalWord, parse, write}
 use Rattle.model.specs.Calls as Calls
 use Rattle.model.specs.Calls.{Answer, media, placedAnswer, answered, taken, outputOf, outputAfter}
-use Rattle.model.specs.Table.{refusal, callRefusal, packetRefusal, mediaRefusal, clockRefusal, sessionSound, sessionRefusal}
+use Rattle.model.specs.Table.{refusal, callRefusal, packetRefusal, refusalAt, fateRefusal, refusalFor, mediaRefusal, clockRefusal, sessionSound, sessionRefusal}
 use Rattle.model.specs.Did.{Done, did, accepted, turnedBack}
 use Rattle.model.proofs.Laid.{parse-entries, parse-gaps}
 use Rattle.entries.specs.declared.Entry as Row
 use Rattle.entries.specs.Entries.{entry, Incoming}
 use Rattle.session.specs.declared.push.Place as Code
 use Rattle.session.specs.Place.{place}
-use Rattle.push.specs.Media.{Counts, Fit, didPlace, didPacket}
+use Rattle.push.specs.Media.{Fit, didPlace, didPacket}
 use Rattle.storage.proofs.Settled.{assoc, refused-is, settled-of}
 
-pub counts-are : (m : Stored) → Counts (m .session) (parse m)
+-- what the session says of the lists is what the state has
+pub refusal-at : (m : Stored) (e : Row.Entry) (payload : List ℕ) (p : Place) → e .size ≡ length payload
+    → packetRefusal (m .session .queue) (m .session .entries) (m .session .gaps) (e .timestamp .0) (e .number .0) (e .size) p ≡ refusalAt (entry e payload) p (parse m)
 unfolding parse
-counts-are m = record { queue = refl; entries = parse-entries m; gaps = parse-gaps m }
+refusal-at m e payload p size = rw (size, parse-entries m, parse-gaps m)
+
+pub refusal-for : (m : Stored) (e : Row.Entry) (payload : List ℕ) (f : Fate) → e .size ≡ length payload
+    → fateRefusal (m .session .queue) (m .session .entries) (e .timestamp .0) (e .number .0) (e .size) f ≡ refusalFor (entry e payload) f (parse m)
+unfolding parse
+refusal-for m e payload f size = rw (size, parse-entries m)
 
 pub incoming-of : (e : Row.Entry) (payload : List ℕ) (instant : ℕ) → e .size ≡ length payload → e .arrival ≡ Some instant → instant ≤ largest → length payload ≤ LARGEST-PAYLOAD → Incoming e payload
 unfolding arrivalWord
@@ -40,24 +48,24 @@ incoming-of e payload instant size came h fit = record { size = size; fits = fit
 -- ---- an entry at its place
 
 module _ (instant : ℕ) (e : Row.Entry) (payload : List ℕ) (p : Code.Place) (m : Stored) (at : place p ≡ mediaPlace (parse m) (e .number .0)) where
-  pub fit-of : (m2 : Stored) → sessionSound m ≡ true → m2 ≡ write (parse m) → packetRefusal instant (entry e payload) (place p) (parse m) ≡ 0 → Incoming e payload → Fit instant e payload p m2
+  pub fit-of : (m2 : Stored) → sessionSound m ≡ true → m2 ≡ write (parse m) → refusalAt (entry e payload) (place p) (parse m) ≡ 0 → Incoming e payload → Fit e payload p m2
   fit-of m2 h w z i =
       let k = settled-of m m2 h w in
       record {
         settled = k .0;
         stands = at ∙ ap (λ (t : State). mediaPlace t (e .number .0)) (sym (k .1));
-        accepted = ap (packetRefusal instant (entry e payload) (place p)) (k .1) ∙ z;
+        accepted = ap (refusalAt (entry e payload) (place p)) (k .1) ∙ z;
         incoming = i;
       }
 
-  pub place-refused : (k : ℕ) → k ≡ packetRefusal instant (entry e payload) (place p) (parse m) → (k ≡ 0 → ⊥) → didPacket instant (entry e payload) m ≡ record { answer = Calls.refused k; stored = m; output = [] }
+  pub place-refused : (k : ℕ) → k ≡ refusalAt (entry e payload) (place p) (parse m) → (k ≡ 0 → ⊥) → didPacket instant (entry e payload) m ≡ record { answer = Calls.refused k; stored = m; output = [] }
   unfolding didPacket didPlace
   place-refused k hk h = rw (← at, ← hk, ne-eqb k 0 h)
 
-  pub place-accepted : (m2 after : Stored) (a : Answer) → sessionSound m ≡ true → m2 ≡ write (parse m) → packetRefusal instant (entry e payload) (place p) (parse m) ≡ 0 → a ≡ placedAnswer (place p) → after ≡ write (afterPlaced instant (entry e payload) (place p) (parse m2))
+  pub place-accepted : (m2 after : Stored) (a : Answer) → sessionSound m ≡ true → m2 ≡ write (parse m) → refusalAt (entry e payload) (place p) (parse m) ≡ 0 → a ≡ placedAnswer (place p) → after ≡ write (afterPlaced instant (entry e payload) (place p) (parse m2))
       → didPacket instant (entry e payload) m ≡ record { answer = a; stored = after; output = [] }
   unfolding didPacket didPlace
-  place-accepted m2 after a h w z ha hw = rw (← at, eq-eqb (packetRefusal instant (entry e payload) (place p) (parse m)) 0 z, ha, hw, settled-of m m2 h w .1)
+  place-accepted m2 after a h w z ha hw = rw (← at, eq-eqb (refusalAt (entry e payload) (place p) (parse m)) 0 z, ha, hw, settled-of m m2 h w .1)
 
 -- ---- the datagram
 
@@ -70,7 +78,7 @@ module _ (instant : ℕ) (d : List ℕ) (m : Stored) (r : ℕ) (e : r ≡ orElse
   datagram = datagramRefusal (m .session .queue .config .senders .pt) (m .session .queue .config .senders .ssrc .0) LARGEST-PAYLOAD d
 
   abbrev later : ℕ
-  later = packetRefusal instant (mediaEntry instant d (parse m .queue)) (mediaPlace (parse m) (mediaEntry instant d (parse m .queue) .number)) (parse m)
+  later = refusalAt (mediaEntry instant d (parse m .queue)) (mediaPlace (parse m) (mediaEntry instant d (parse m .queue) .number)) (parse m)
 
   chain : refusal (media instant d) m ≡ orElse r (orElse datagram later)
   unfolding refusal callRefusal mediaRefusal parse

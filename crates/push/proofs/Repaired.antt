@@ -13,18 +13,17 @@ use Rattle.rtp.specs.declared.opt.Opt.the-variants.{None, Some}
 use Rattle.refusals.specs.Refusals.{ENTRIES-FULL, orElse}
 use Rattle.refusals.proofs.Laws.{orElse-none}
 use Rattle.rtp_packet.specs.Datagram.{LARGEST-PAYLOAD}
-use Rattle.rtx_state.specs.Repair.{recordTooLate, recordRedundant, recordInTime}
-use Rattle.packet_loss.specs.Loss.{recordLost}
+use Rattle.rtx_state.specs.Repair.{recordTooLate, recordInTime}
 use Rattle.model.specs.declared.Queue.{Queue}
 use Rattle.model.specs.declared.Session.{Session}
 use Rattle.model.specs.Lists.{keep, some?}
-use Rattle.model.specs.Records.{Entry, Remembered, State, returnedOf, withClock, withRtx, withLoss}
+use Rattle.model.specs.Records.{Entry, Remembered, State, returnedOf}
 use Rattle.model.specs.Rules.{is, gapOf, without, onceOf, instantOf, isOf, forgetFirst}
-use Rattle.model.specs.Push.{passed, insertSorted, Fate, tooLate, recovered, redundant, repairFate, sampled, afterFate}
+use Rattle.model.specs.Push.{passed, insertSorted, Fate, tooLate, recovered, redundant, repairFate, queueTooLate, queueRedundant, queueRecovered, afterFate}
 use Rattle.model.specs.Storage.{Stored, ENTRY-WORDS, PAYLOAD-BYTES, arrivalWord, entryWords, payloadBytes, gapWords, rememberedWords, entryPlaces, entriesOf, gapsOf, rememberedOf, entriesLaid, payloadsLaid, gapsLaid, rememberedLaid, parse, write}
 use Rattle.model.specs.Calls as Calls
 use Rattle.model.specs.Calls.{Answer}
-use Rattle.model.specs.Table.{countRefusal, refuseIf, fateValues, noPlace, fateRefusal, sessionSound}
+use Rattle.model.specs.Table.{countRefusal, refuseIf, fateValues, noPlace, fateRefusal, refusalFor, sessionSound}
 use Rattle.model.proofs.Lists.{length-insert}
 use Rattle.model.proofs.Laid.{length-entriesOf, length-rememberedOf}
 use Rattle.model.proofs.SoundQueue.{not-refused}
@@ -35,7 +34,6 @@ use Rattle.session.specs.declared.rtx.Fate.the-variants as Variant
 use Rattle.session.specs.Place.{fate}
 use Rattle.model.specs.Contract.{stored}
 use Rattle.storage.specs.Settled.{Settled}
-use Rattle.push.specs.Media.{Counts}
 use Rattle.push.specs.Repair.{leftAfter, didFate, didRepair, FitRepair}
 use Rattle.storage.proofs.Settled.{Ready, holding, settled-of}
 use Rattle.push.proofs.Placing.{length-filled}
@@ -84,7 +82,7 @@ module _ (instant : ℕ) (e : Row.Entry) (m : Stored) (s : Settled m) where
       omega (arith, left-some (length held) (length (forgetFirst (e .number .0) held)) (instantOf (keep (isOf (e .number .0)) held)) i (sym h ∙ g) (forget-left (e .number .0) held))
 
   pub late-is : (q : Queue) (o : Opt) (k : ℕ) (rs : List ℕ) → o ≡ instantOf (keep (isOf (e .number .0)) held)
-      → q ≡ withRtx (withClock (m .session .queue) instant) (sampled instant o (recordTooLate (m .session .queue .rtx)))
+      → q ≡ queueTooLate instant o (m .session .queue)
       → k ≡ leftAfter (m .session .remembered) o → rs ≡ laid rememberedWords (length (m .storage .remembered)) (forgetFirst (e .number .0) held)
       → (payload : List ℕ) → stored (record { queue = q; entries = m .session .entries; gaps = m .session .gaps; remembered = k }) (m .storage .entries) (m .storage .payloads) (m .storage .gaps) rs ≡ write (afterFate instant (entry e payload) tooLate (parse m))
   unfolding afterFate parse write laid rememberedLaid recordTooLate
@@ -97,7 +95,7 @@ module _ (instant : ℕ) (e : Row.Entry) (m : Stored) (s : Settled m) where
 
   -- ---- redundant
 
-  pub redundant-is : (q : Queue) → q ≡ withRtx (withClock (m .session .queue) instant) (recordRedundant (m .session .queue .rtx)) → (payload : List ℕ)
+  pub redundant-is : (q : Queue) → q ≡ queueRedundant instant (m .session .queue) → (payload : List ℕ)
       → stored (record { queue = q; entries = m .session .entries; gaps = m .session .gaps; remembered = m .session .remembered }) (m .storage .entries) (m .storage .payloads) (m .storage .gaps) (m .storage .remembered) ≡ write (afterFate instant (entry e payload) redundant (parse m))
   unfolding afterFate parse write
   redundant-is q hq payload =
@@ -134,7 +132,7 @@ module _ (instant : ℕ) (e : Row.Entry) (payload : List ℕ) (m : Stored) (f : 
   room-left = (omega (arith, ready-repair .lengths .entries, place-left), omega (arith, ready-repair .lengths .payloads, place-left))
 
   pub recovered-is : (q : Queue) (o : Opt) (es ps gs : List ℕ) → o ≡ onceOf (gapOf (e .number .0) (gapsOf (m .storage .gaps) (m .session .gaps)))
-      → q ≡ withLoss (withRtx (withClock (m .session .queue) instant) (sampled instant o (recordInTime (m .session .queue .rtx) (e .size)))) (recordLost (m .session .queue .loss) 1)
+      → q ≡ queueRecovered instant o (e .size) (m .session .queue)
       → es ≡ laid entryWords (length (m .storage .entries)) (insertSorted x (entriesOf (m .storage .entries) (m .storage .payloads) (m .session .entries)))
       → ps ≡ laid payloadBytes (length (m .storage .payloads)) (insertSorted x (entriesOf (m .storage .entries) (m .storage .payloads) (m .session .entries)))
       → gs ≡ laid gapWords (length (m .storage .gaps)) (without (e .number .0) (gapsOf (m .storage .gaps) (m .session .gaps)))
@@ -151,9 +149,9 @@ module _ (instant : ℕ) (e : Row.Entry) (payload : List ℕ) (m : Stored) (f : 
 -- ---- 14, then 13
 
 pub fate-refusal-is : (s : Session) (e : Row.Entry) (f : Code.Fate) (r a b : ℕ) → r ≡ orElse a b → a ≡ countRefusal (e .timestamp .0 ∷ e .number .0 ∷ fateValues (s .queue .rtx) (e .size) (fate f)) → b ≡ refuseIf (noPlace (entryPlaces (s .queue .config .settings)) (s .entries) (fate f)) ENTRIES-FULL
-    → (payload : List ℕ) (st : State) → Counts s st → length payload ≡ e .size → r ≡ fateRefusal (entry e payload) (fate f) st
+    → r ≡ fateRefusal (s .queue) (s .entries) (e .timestamp .0) (e .number .0) (e .size) (fate f)
 unfolding fateRefusal
-fate-refusal-is s e f r a b hr ha hb payload st k size = hr ∙ rw (ha, hb, k .queue, k .entries, size)
+fate-refusal-is s e f r a b hr ha hb = hr ∙ rw (ha, hb)
 
 -- ---- what `did` says
 
@@ -162,21 +160,21 @@ unfolding arrivalWord
 incoming-repair e payload size came fit = record { size = size; fits = fit; arrival = rw came (lit< tt) }
 
 module _ (instant : ℕ) (e : Row.Entry) (payload : List ℕ) (f : Code.Fate) (m : Stored) (at : fate f ≡ repairFate (parse m) (e .number .0)) where
-  pub fit-repair : (m2 : Stored) → sessionSound m ≡ true → m2 ≡ write (parse m) → fateRefusal (entry e payload) (fate f) (parse m) ≡ 0 → Incoming e payload → FitRepair e payload f m2
+  pub fit-repair : (m2 : Stored) → sessionSound m ≡ true → m2 ≡ write (parse m) → refusalFor (entry e payload) (fate f) (parse m) ≡ 0 → Incoming e payload → FitRepair e payload f m2
   fit-repair m2 h w z i =
       let k = settled-of m m2 h w in
       record {
         settled = k .0;
         meets = at ∙ ap (λ (t : State). repairFate t (e .number .0)) (sym (k .1));
-        accepted = ap (fateRefusal (entry e payload) (fate f)) (k .1) ∙ z;
+        accepted = ap (refusalFor (entry e payload) (fate f)) (k .1) ∙ z;
         incoming = i;
       }
 
-  pub fate-refused : (k : ℕ) → k ≡ fateRefusal (entry e payload) (fate f) (parse m) → (k ≡ 0 → ⊥) → didRepair instant (entry e payload) m ≡ record { answer = Calls.refused k; stored = m; output = [] }
+  pub fate-refused : (k : ℕ) → k ≡ refusalFor (entry e payload) (fate f) (parse m) → (k ≡ 0 → ⊥) → didRepair instant (entry e payload) m ≡ record { answer = Calls.refused k; stored = m; output = [] }
   unfolding didRepair didFate
   fate-refused k hk h = rw (← at, ← hk, ne-eqb k 0 h)
 
-  pub fate-accepted : (m2 after : Stored) (a : Answer) → sessionSound m ≡ true → m2 ≡ write (parse m) → fateRefusal (entry e payload) (fate f) (parse m) ≡ 0 → a ≡ Calls.repaired (fate f) → after ≡ write (afterFate instant (entry e payload) (fate f) (parse m2))
+  pub fate-accepted : (m2 after : Stored) (a : Answer) → sessionSound m ≡ true → m2 ≡ write (parse m) → refusalFor (entry e payload) (fate f) (parse m) ≡ 0 → a ≡ Calls.repaired (fate f) → after ≡ write (afterFate instant (entry e payload) (fate f) (parse m2))
       → didRepair instant (entry e payload) m ≡ record { answer = a; stored = after; output = [] }
   unfolding didRepair didFate
-  fate-accepted m2 after a h w z ha hw = rw (← at, eq-eqb (fateRefusal (entry e payload) (fate f) (parse m)) 0 z, ha, hw, settled-of m m2 h w .1)
+  fate-accepted m2 after a h w z ha hw = rw (← at, eq-eqb (refusalFor (entry e payload) (fate f) (parse m)) 0 z, ha, hw, settled-of m m2 h w .1)

@@ -16,7 +16,7 @@ use Rattle.model.specs.Push.{extendedEntry, repairEntry, repairFate, afterRepai
 use Rattle.model.specs.Storage.{Stored, parse}
 use Rattle.model.specs.Calls as Calls
 use Rattle.model.specs.Calls.{repair, answered, taken, outputOf, outputAfter}
-use Rattle.model.specs.Table.{refusal, callRefusal, originalNumberRefusal, fateRefusal, repairRefusal, clockRefusal, rtxRefusal, mediaFirstRefusal, sessionRefusal}
+use Rattle.model.specs.Table.{refusal, callRefusal, originalNumberRefusal, refusalFor, repairRefusal, clockRefusal, rtxRefusal, mediaFirstRefusal, sessionRefusal}
 use Rattle.model.specs.Did.{Done, did, accepted, turnedBack}
 use Rattle.push.specs.Repair.{didFate, didRepair, didOriginal}
 use Rattle.storage.proofs.Settled.{assoc, refused-is}
@@ -47,7 +47,7 @@ module _ (instant : ℕ) (d : List ℕ) (m : Stored) (r c : ℕ) (ec : c ≡ orE
   datagram = datagramRefusal (m .session .queue .config .senders .«rtx_pt») (m .session .queue .config .senders .«rtx_ssrc» .0) LARGEST-REPAIR d
 
   abbrev later : ℕ
-  later = orElse (originalNumberRefusal (m .session .queue) (payloadOf d)) (fateRefusal (repairEntry d (m .session .queue)) (repairFate (parse m) (repairEntry d (m .session .queue) .number)) (parse m))
+  later = orElse (originalNumberRefusal (m .session .queue) (payloadOf d)) (refusalFor (repairEntry d (m .session .queue)) (repairFate (parse m) (repairEntry d (m .session .queue) .number)) (parse m))
 
   chain : refusal (repair instant d) m ≡ orElse r (orElse datagram later)
   unfolding refusal callRefusal repairRefusal parse
@@ -62,19 +62,19 @@ module _ (instant : ℕ) (d : List ℕ) (m : Stored) (r c : ℕ) (ec : c ≡ orE
     unfolding outputOf
     repair-unread k hk h = refused-is (repair instant d) m k (sym (chain ∙ orElse-second r _ z ∙ ap (λ (j : ℕ). orElse j later) hk ∙ orElse-first k later h)) h
 
-    reads : datagram ≡ 0 → refusal (repair instant d) m ≡ orElse (originalNumberRefusal (m .session .queue) (payloadOf d)) (fateRefusal (repairEntry d (m .session .queue)) (repairFate (parse m) (repairEntry d (m .session .queue) .number)) (parse m))
+    reads : datagram ≡ 0 → refusal (repair instant d) m ≡ orElse (originalNumberRefusal (m .session .queue) (payloadOf d)) (refusalFor (repairEntry d (m .session .queue)) (repairFate (parse m) (repairEntry d (m .session .queue) .number)) (parse m))
     reads hk = chain ∙ orElse-second r _ z ∙ orElse-second datagram later hk
 
     same-entry : extendedEntry (m .session .queue) None (packetOf d .timestamp .0) (originalNumber (payloadOf d)) (packetOf d .marker) (originalPayload (payloadOf d)) ≡ repairEntry d (m .session .queue)
     unfolding repairEntry packetOf
     same-entry = refl
 
-    read-as : refusal (repair instant d) m ≡ fateRefusal (repairEntry d (parse m .queue)) (repairFate (parse m) (repairEntry d (parse m .queue) .number)) (parse m) → did (repair instant d) m ≡ didRepair instant (repairEntry d (parse m .queue)) m
+    read-as : refusal (repair instant d) m ≡ refusalFor (repairEntry d (parse m .queue)) (repairFate (parse m) (repairEntry d (parse m .queue) .number)) (parse m) → did (repair instant d) m ≡ didRepair instant (repairEntry d (parse m .queue)) m
     unfolding did accepted turnedBack answered taken outputOf outputAfter afterRepair didRepair didFate
     read-as h = rw h
 
     -- 10 and 11 decide, or what follows them
-    joined : (a b : ℕ) → refusal (repair instant d) m ≡ orElse a b → b ≡ fateRefusal (repairEntry d (m .session .queue)) (repairFate (parse m) (repairEntry d (m .session .queue) .number)) (parse m)
+    joined : (a b : ℕ) → refusal (repair instant d) m ≡ orElse a b → b ≡ refusalFor (repairEntry d (m .session .queue)) (repairFate (parse m) (repairEntry d (m .session .queue) .number)) (parse m)
         → did (repair instant d) m ≡ cond (eqb a 0) (didRepair instant (repairEntry d (m .session .queue)) m) (record { answer = Calls.refused a; stored = m; output = [] })
     unfolding outputOf parse
     joined a b ha hb = go (eqb a 0) refl

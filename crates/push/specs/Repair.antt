@@ -10,7 +10,7 @@ use Rattle.model.specs.Records.{Entry}
 use Rattle.model.specs.Push.{extendedEntry, Fate, repairFate, afterFate}
 use Rattle.model.specs.Storage.{Stored, parse, write}
 use Rattle.model.specs.Calls as Calls
-use Rattle.model.specs.Table.{originalNumberRefusal, fateRefusal}
+use Rattle.model.specs.Table.{originalNumberRefusal, refusalFor}
 use Rattle.model.specs.Did.{Done}
 use Rattle.entries.specs.declared.Entry as Row
 use Rattle.entries.specs.Entries.{entry, Incoming}
@@ -21,7 +21,7 @@ use Rattle.push.specs.Answers.{unlessRefused}
 
 unfoldable pub didFate : ℕ → Entry → Fate → Stored → Done
 unfolding unlessRefused
-didFate instant e f m = unlessRefused (fateRefusal e f (parse m)) m (record { answer = Calls.repaired f; stored = write (afterFate instant e f (parse m)); output = [] })
+didFate instant e f m = unlessRefused (refusalFor e f (parse m)) m (record { answer = Calls.repaired f; stored = write (afterFate instant e f (parse m)); output = [] })
 
 -- what `did` says of a repair that no check before 14 turns back
 unfoldable pub didRepair : ℕ → Entry → Stored → Done
@@ -44,5 +44,5 @@ leftAfter n (Some i) = n - 1
 pub record FitRepair (e : Row.Entry) (payload : List ℕ) (f : Code.Fate) (m : Stored) : Type 0 where
   pub settled : Settled m
   pub meets : fate f ≡ repairFate (parse m) (e .number .0)
-  pub accepted : fateRefusal (entry e payload) (fate f) (parse m) ≡ 0
+  pub accepted : refusalFor (entry e payload) (fate f) (parse m) ≡ 0
   pub incoming : Incoming e payload

@@ -3,7 +3,6 @@ ghost use mathlib.Core.Path.{_≡_};
 ghost use mathlib.Core.Bool.{true};
 ghost use mathlib.Core.List.{List, []};
 ghost use Prim.Native.Nat.{ℕ, _+_, _*_, _-_, _≤_, _<_};
-ghost use lib.Dec.{leb};
 ghost use lib.ListN.{length};
 ghost use Rattle.words.specs.Blocks.{laid};
 ghost use Rattle.words.specs.Order.{ascends};
@@ -14,13 +13,13 @@ ghost use Rattle.model.specs.Storage.{GAP-WORDS, gapWords, gapsOf, parse, write
 ghost use Rattle.durations.specs.Seconds.{largest};
 ghost use Rattle.rtp_packet.specs.Datagram.{LARGEST-PAYLOAD};
 ghost use Rattle.model.specs.Calls.{media, placedAnswer};
-ghost use Rattle.model.specs.Table.{sessionSound, packetRefusal};
+ghost use Rattle.model.specs.Table.{atDepth, sessionSound, packetRefusal};
 ghost use Rattle.packet_gaps.specs.Gaps.{GapsIn};
 ghost use Rattle.entries.specs.Entries.{entry};
 ghost use Rattle.session.specs.Place as Spec;
 ghost use Rattle.push.specs.Answers.{mediaAnswer};
 ghost use Rattle.model.specs.Contract.{stored, Does};
-ghost use Rattle.push.specs.Media.{Takes, Counts, Fit, didPacket};
+ghost use Rattle.push.specs.Media.{Takes, Fit, didPacket};
 use entries::Entry;
 use model::LastReceived;
 use model::Queue;
@@ -173,7 +172,7 @@ fn extended_entry(
 
 // Whether one more entry would be beyond the depth.
 fn is_full(s: Session) -> bool
-    ensures { λ r. ⌜ r ≡ leb (s .queue .config .settings .«max_entries») (s .entries) ⌝ }
+    ensures { λ r. ⌜ r ≡ atDepth (s .queue .config .settings) (s .entries) ⌝ }
 {
     let config = s.queue.config;
     let settings = config.settings;
@@ -183,7 +182,7 @@ fn is_full(s: Session) -> bool
 // 14, then 12, in a session that check 16 passes.
 fn packet_refusal(s: Session, e: Entry, place: Place) -> u64
     requires { ⌜ (s .queue .counters .bytes ≤ largest) × (e .size ≤ LARGEST-PAYLOAD) × (s .gaps ≤ s .queue .config .settings .«max_gaps») ⌝ }
-    ensures { λ r. ⌜ ((instant : ℕ) (payload : List ℕ) (st : Records.State) → Counts s st → length payload ≡ e .size → r ≡ packetRefusal instant (entry e payload) (Spec.place place) st) ⌝ }
+    ensures { λ r. ⌜ r ≡ packetRefusal (s .queue) (s .entries) (s .gaps) (e .timestamp .0) (e .number .0) (e .size) (Spec.place place) ⌝ }
 {
     let q = s.queue;
     let config = q.config;
@@ -214,7 +213,7 @@ fn insert_packet(
     payload: &[u8],
     place: Place,
 ) -> Session
-    requires { ⌜ Fit instant e (now payload) place (stored s (now entries) (now payloads) (now gaps) (now remembered)) ⌝ }
+    requires { ⌜ Fit e (now payload) place (stored s (now entries) (now payloads) (now gaps) (now remembered)) ⌝ }
     requires { ⌜ (Rules.waits (Spec.place place) ≡ true) × (s .entries < s .queue .config .settings .«max_entries») ⌝ }
     ensures { λ r. ⌜ stored r (now (entries .exit)) (now (payloads .exit)) (now (gaps .exit)) (now (remembered .entry)) ≡ write (Push.afterPlaced instant (entry e (now (payload .entry))) (Spec.place place) (parse (stored s (now (entries .entry)) (now (payloads .entry)) (now (gaps .entry)) (now (remembered .entry))))) ⌝ }
 {
@@ -243,7 +242,7 @@ fn push_out_packet(
     payload: &[u8],
     place: Place,
 ) -> Session
-    requires { ⌜ Fit instant e (now payload) place (stored s (now entries) (now payloads) (now gaps) (now remembered)) ⌝ }
+    requires { ⌜ Fit e (now payload) place (stored s (now entries) (now payloads) (now gaps) (now remembered)) ⌝ }
     requires { ⌜ (Rules.waits (Spec.place place) ≡ true) × (s .queue .config .settings .«max_entries» ≤ s .entries) ⌝ }
     ensures { λ r. ⌜ stored r (now (entries .exit)) (now (payloads .exit)) (now (gaps .exit)) (now (remembered .entry)) ≡ write (Push.afterPlaced instant (entry e (now (payload .entry))) (Spec.place place) (parse (stored s (now (entries .entry)) (now (payloads .entry)) (now (gaps .entry)) (now (remembered .entry))))) ⌝ }
 {
@@ -274,7 +273,7 @@ fn queue_packet(
     payload: &[u8],
     place: Place,
 ) -> Session
-    requires { ⌜ Fit instant e (now payload) place (stored s (now entries) (now payloads) (now gaps) (now remembered)) × (Rules.waits (Spec.place place) ≡ true) ⌝ }
+    requires { ⌜ Fit e (now payload) place (stored s (now entries) (now payloads) (now gaps) (now remembered)) × (Rules.waits (Spec.place place) ≡ true) ⌝ }
     ensures { λ r. ⌜ stored r (now (entries .exit)) (now (payloads .exit)) (now (gaps .exit)) (now (remembered .entry)) ≡ write (Push.afterPlaced instant (entry e (now (payload .entry))) (Spec.place place) (parse (stored s (now (entries .entry)) (now (payloads .entry)) (now (gaps .entry)) (now (remembered .entry))))) ⌝ }
 {
     if is_full(s) {
@@ -315,7 +314,7 @@ fn place_packet(
     payload: &[u8],
     place: Place,
 ) -> Pushed
-    requires { ⌜ Fit instant e (now payload) place (stored s (now entries) (now payloads) (now gaps) (now remembered)) ⌝ }
+    requires { ⌜ Fit e (now payload) place (stored s (now entries) (now payloads) (now gaps) (now remembered)) ⌝ }
     ensures { λ r. ⌜ mediaAnswer (r .answer) ≡ placedAnswer (Spec.place place) ⌝ }
     ensures { λ r. ⌜ stored (r .session) (now (entries .exit)) (now (payloads .exit)) (now (gaps .exit)) (now (remembered .entry)) ≡ write (Push.afterPlaced instant (entry e (now (payload .entry))) (Spec.place place) (parse (stored s (now (entries .entry)) (now (payloads .entry)) (now (gaps .entry)) (now (remembered .entry))))) ⌝ }
 {

@@ -18,7 +18,6 @@ ghost use Rattle.session.specs.Place as Spec;
 ghost use Rattle.push.specs.Answers.{repairAnswer};
 ghost use Rattle.model.specs.Contract.{stored, Does};
 ghost use Rattle.storage.specs.Settled.{Settled};
-ghost use Rattle.push.specs.Media.{Counts};
 ghost use Rattle.push.specs.Repair.{FitRepair, leftAfter, didRepair, didOriginal};
 use entries::Entry;
 use model::Queue;
@@ -87,7 +86,7 @@ fn entries_full(places: usize, n: usize, fate: Fate) -> u64
 // 14, then 13, in a session that check 16 passes.
 fn fate_refusal(s: Session, e: Entry, fate: Fate) -> u64
     requires { ⌜ (s .queue .rtx .«bytes_received» ≤ largest) × (e .size ≤ LARGEST-PAYLOAD) × (s .queue .config .settings .«max_entries» ≤ 1024) ⌝ }
-    ensures { λ r. ⌜ ((payload : List ℕ) (st : Records.State) → Counts s st → length payload ≡ e .size → r ≡ fateRefusal (entry e payload) (Spec.fate fate) st) ⌝ }
+    ensures { λ r. ⌜ r ≡ fateRefusal (s .queue) (s .entries) (e .timestamp .0) (e .number .0) (e .size) (Spec.fate fate) ⌝ }
 {
     let q = s.queue;
     let config = q.config;

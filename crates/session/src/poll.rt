@@ -43,7 +43,7 @@ pub fn drained(q: Queue, now: u64, lost: u64) -> Queue
 // The entry of the number goes out, and the gaps below it are lost.
 pub fn handed_out(q: Queue, lost: u64, number: ExtendedSequenceNumber) -> Queue
     requires { ⌜ q .counters .lost + lost < 2 ^ 64 ⌝ }
-    ensures { λ r. ⌜ r ≡ Records.withReturned (Poll.lose lost q) (number .0) ⌝ }
+    ensures { λ r. ⌜ r ≡ Poll.queueHandedOut (number .0) lost q ⌝ }
 {
     super::with_returned(super::lose(q, lost), number)
 }
@@ -61,7 +61,7 @@ fn sorted_ready(q: Queue, now: u64, timestamp: ExtendedRtpTimestamp) -> bool
     requires { ⌜ (q .clock ≤ now) × (now ≤ largest) ⌝ }
     requires { ⌜ T (settingsValid (q .config .settings)) ⌝ }
     requires { ⌜ T (Valid.lastSound (q .clock) (q .last)) ⌝ }
-    ensures { λ r. ⌜ ((e : Records.Entry) → e .timestamp ≡ timestamp .0 → r ≡ Poll.ready q SortedQueue (q .last) now e) ⌝ }
+    ensures { λ r. ⌜ r ≡ Poll.readyIn SortedQueue (q .config .settings) (q .last) now (timestamp .0) ⌝ }
 {
     let last = q.last;
     let config = q.config;
@@ -86,7 +86,7 @@ pub fn ready(q: Queue, now: u64, timestamp: ExtendedRtpTimestamp) -> bool
     requires { ⌜ (q .clock ≤ now) × (now ≤ largest) ⌝ }
     requires { ⌜ T (settingsValid (q .config .settings)) ⌝ }
     requires { ⌜ T (Valid.lastSound (q .clock) (q .last)) ⌝ }
-    ensures { λ r. ⌜ ((e : Records.Entry) → e .timestamp ≡ timestamp .0 → r ≡ Poll.ready q (q .config .settings .mode) (q .last) now e) ⌝ }
+    ensures { λ r. ⌜ r ≡ Poll.ready q now (timestamp .0) ⌝ }
 {
     let config = q.config;
     let settings = config.settings;

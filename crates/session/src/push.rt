@@ -6,7 +6,6 @@ ghost use Prim.Native.Nat.{_+_, _-_, _<_, _≤_};
 ghost use lib.Dec.{leb, ltb};
 ghost use lib.ListN.{length};
 ghost use Rattle.durations.specs.Seconds.{largest};
-ghost use Rattle.packet_loss.specs.Loss as Loss;
 ghost use Rattle.refusals.specs.Refusals as Refusals;
 ghost use Rattle.model.specs.Records as Records;
 ghost use Rattle.model.specs.Rules as Rules;
@@ -104,7 +103,7 @@ fn count_received(c: Counters, size: u64) -> Counters
 // The queue after a packet that is dropped.
 pub fn dropped(q: Queue, now: u64, timestamp: ExtendedRtpTimestamp) -> Queue
     requires { ⌜ q .counters .dropped < largest ⌝ }
-    ensures { λ r. ⌜ r ≡ Records.withCounters (Push.heard now (timestamp .0) q) (Push.countDropped (q .counters)) ⌝ }
+    ensures { λ r. ⌜ r ≡ Push.queueDropped now (timestamp .0) q ⌝ }
 {
     let counters = count_dropped(q.counters);
     let mut next = super::heard(q, now, timestamp);
@@ -122,7 +121,7 @@ pub fn queued(
     place: Place,
 ) -> Queue
     requires { ⌜ (q .counters .received < largest) × (q .counters .bytes + size ≤ largest) ⌝ }
-    ensures { λ r. ⌜ r ≡ Records.withLoss (Records.withCounters (Records.withLast (Push.heard now (timestamp .0) q) (Push.lastAfter now (timestamp .0) (number .0) (Spec.place place) (q .last))) (Push.countReceived size (q .counters))) (Loss.recordReceived (q .loss)) ⌝ }
+    ensures { λ r. ⌜ r ≡ Push.queueQueued now (timestamp .0) (number .0) size (Spec.place place) q ⌝ }
 {
     let counters = count_received(q.counters, size);
     let before = q.last;
@@ -148,7 +147,7 @@ pub fn queued(
 // The queue after its front entry, of this number, was pushed out.
 pub fn pushed_out(q: Queue, number: ExtendedSequenceNumber) -> Queue
     requires { ⌜ q .counters .dropped < largest ⌝ }
-    ensures { λ r. ⌜ r ≡ Records.withReturned (Records.withCounters q (Push.countDropped (q .counters))) (number .0) ⌝ }
+    ensures { λ r. ⌜ r ≡ Push.queuePushedOut (number .0) q ⌝ }
 {
     let counters = count_dropped(q.counters);
     let mut next = q;
@@ -232,10 +231,10 @@ fn gaps_full(max_gaps: usize, opened: usize, s: u64) -> u64
     0
 }
 
-// 12, where the gaps l are open.
+// 12, with so many gaps open.
 pub fn gaps(settings: Settings, opened: usize, number: ExtendedSequenceNumber, place: Place) -> u64
     requires { ⌜ opened ≤ settings .«max_gaps» ⌝ }
-    ensures { λ r. ⌜ ((l : List Records.Gap) → length l ≡ opened → r ≡ Table.refuseIf (Table.tooManyGaps settings l (number .0) (Spec.place place)) Refusals.GAPS-FULL) ⌝ }
+    ensures { λ r. ⌜ r ≡ Table.refuseIf (Table.tooManyGaps settings opened (number .0) (Spec.place place)) Refusals.GAPS-FULL ⌝ }
 {
     match place {
         Place::Near(h) => {

@@ -3,9 +3,6 @@ ghost use mathlib.Core.Path.{_≡_};
 ghost use mathlib.Core.List.{_∷_};
 ghost use Prim.Native.Nat.{_+_, _≤_};
 ghost use Rattle.durations.specs.Seconds.{largest};
-ghost use Rattle.rtx_state.specs.Repair as Repair;
-ghost use Rattle.packet_loss.specs.Loss as Loss;
-ghost use Rattle.model.specs.Records as Records;
 ghost use Rattle.model.specs.Push as Push;
 ghost use Rattle.model.specs.Table as Table;
 ghost use Rattle.session.specs.Place as Spec;
@@ -35,7 +32,7 @@ fn sampled(state: RtxState, now: u64, nacked: Opt) -> RtxState
 
 // The queue after a repair that came too late.
 pub fn too_late(q: Queue, now: u64, nacked: Opt) -> Queue
-    ensures { λ r. ⌜ r ≡ Records.withRtx (Records.withClock q now) (Push.sampled now nacked (Repair.recordTooLate (q .rtx))) ⌝ }
+    ensures { λ r. ⌜ r ≡ Push.queueTooLate now nacked q ⌝ }
 {
     let rtx = sampled(q.rtx.record_too_late(), now, nacked);
     let mut next = q;
@@ -46,7 +43,7 @@ pub fn too_late(q: Queue, now: u64, nacked: Opt) -> Queue
 
 // The queue after a repair of a number that was not missing.
 pub fn redundant(q: Queue, now: u64) -> Queue
-    ensures { λ r. ⌜ r ≡ Records.withRtx (Records.withClock q now) (Repair.recordRedundant (q .rtx)) ⌝ }
+    ensures { λ r. ⌜ r ≡ Push.queueRedundant now q ⌝ }
 {
     let rtx = q.rtx.record_redundant();
     let mut next = q;
@@ -57,7 +54,7 @@ pub fn redundant(q: Queue, now: u64) -> Queue
 
 // The queue after a repair that filled its gap.
 pub fn recovered(q: Queue, now: u64, nacked: Opt, size: u64) -> Queue
-    ensures { λ r. ⌜ r ≡ Records.withLoss (Records.withRtx (Records.withClock q now) (Push.sampled now nacked (Repair.recordInTime (q .rtx) size))) (Loss.recordLost (q .loss) 1) ⌝ }
+    ensures { λ r. ⌜ r ≡ Push.queueRecovered now nacked size q ⌝ }
 {
     let rtx = sampled(q.rtx.record_in_time(size), now, nacked);
     let loss = q.loss.record_lost(1);

@@ -1,7 +1,7 @@
 -- `given_up` meets its contract, arm by arm.
 use mathlib.Core.Path.{_≡_}
 use Rattle.config.specs.declared.RtpInboundQueueMode.the-variants.{Passthrough, SortedQueue}
-use Rattle.model.specs.Poll.{givenUp}
+use Rattle.model.specs.Poll.{givenUpIn}
 use borrow.Author.Needs.{needs}
 use Rattle.poll.proofs.given_up.Statement.{statement}
 use Rattle.poll.proofs.given_up.Tie as tie
@@ -16,13 +16,13 @@ enum-told-2 : tie.Need-enum-told-2
 enum-told-2 c = search needs
 
 returns : tie.Need-returns
-unfolding givenUp
+unfolding givenUpIn
 returns c =
     let m : c .before .before .before .before .before .before .args .q .config .settings .mode ≡ Passthrough = c .before .enum-told .given .1 in
     rw m (c .count-lost .ensures)
 
 returns-2 : tie.Need-returns-2
-unfolding givenUp
+unfolding givenUpIn
 returns-2 c =
     let m : c .before .before .before .before .before .args .q .config .settings .mode ≡ SortedQueue = c .enum-told2 .given .1 in
     rw m

@@ -2,6 +2,7 @@
 use mathlib.Core.Path.{sym, ap, _∙_}
 use lib.ListN.{take}
 use Rattle.model.specs.Records.{Entry}
+use Rattle.model.specs.Poll.{ready}
 use Rattle.model.specs.Storage.{PAYLOAD-BYTES}
 use Rattle.poll.proofs.Fronts.{hands-none, hands-first}
 use borrow.Author.Needs.{needs}
@@ -20,7 +21,8 @@ ready-requires c κs = search needs
 returns-2 : tie.Need-returns-2
 returns-2 c payloads =
     let s = c .before .before .before .before in
-    c .ready .ensures _ (ap (λ (e : Entry). e .timestamp) (c .before .read .ensures (take PAYLOAD-BYTES payloads)))
+    c .ready .ensures
+    ∙ ap (λ (e : Entry). ready (s .args .q) (s .args .instant) (e .timestamp)) (sym (c .before .read .ensures (take PAYLOAD-BYTES payloads)))
     ∙ sym (hands-first (s .args .instant) (s .args .q) (s .args .entries .now) payloads (s .args .n) (c .before .before .if1 .left))
 
 pub goes-out-spec : {M : Type 1} → statement M

@@ -14,7 +14,7 @@ or-else-requires : tie.Need-or-else-requires
 or-else-requires c κs = search needs
 
 returns : tie.Need-returns
-returns c out l = c .or-else .ensures ∙ rw (c .before .before .output-refusal .ensures out l, c .before .clock-refusal .ensures)
+returns c = c .or-else .ensures ∙ rw (c .before .before .output-refusal .ensures, c .before .clock-refusal .ensures)
 
 pub output-and-clock-refusal-spec : {M : Type 1} → statement M
 output-and-clock-refusal-spec = tie.close (tie.spec output-refusal-requires clock-refusal-requires or-else-requires returns)

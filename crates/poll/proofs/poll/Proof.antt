@@ -22,7 +22,7 @@ or-else-requires c κs = search needs
 early : (c : tie.After-or-else) → (let a = c .before .before .before .before .before .before .before .before .before .before .before .before .args in c .or-else .result ≡ earlyRefusal LARGEST-PAYLOAD (a .out .now) (a .now) (stored (a .session) (a .entries .now) (a .payloads .now) (a .gaps .now) (a .remembered .now)))
 early c =
     let a = c .before .before .before .before .before .before .before .before .before .before .before .before .args in
-    early-is (stored (a .session) (a .entries .now) (a .payloads .now) (a .gaps .now) (a .remembered .now)) LARGEST-PAYLOAD (a .now) (a .out .now) _ _ _ (c .or-else .ensures) (c .before .before .session-refusal .ensures) (c .before .output-and-clock-refusal .ensures (a .out .now) refl)
+    early-is (stored (a .session) (a .entries .now) (a .payloads .now) (a .gaps .now) (a .remembered .now)) LARGEST-PAYLOAD (a .now) (a .out .now) _ _ _ (c .or-else .ensures) (c .before .before .session-refusal .ensures) (c .before .output-and-clock-refusal .ensures)
 
 same-length : tie.Need-same-length
 same-length c = search needs

@@ -9,21 +9,21 @@ use Rattle.push.proofs.insert_packet.Tie as tie
 queued-requires : tie.Need-queued-requires
 queued-requires c κs = let s = c .before .before .before .before .before in
     let a = s .args in
-    counters-fit _ _ _ _ _ (s .pre .0) (s .pre .1 .0)
+    counters-fit (s .args .instant) _ _ _ _ (s .pre .0) (s .pre .1 .0)
 
 insert-requires : tie.Need-insert-requires
 insert-requires c κs = let s = c .before .before .before .before .before .before .before .before in
-    let r = ready-for _ _ _ _ _ (s .pre .0) in
+    let r = ready-for (s .args .instant) _ _ _ _ (s .pre .0) in
     (r .entries-in, (r .entries-ascend, ((omega (arith, r .lengths .entries, s .pre .1 .1, r .checked .usable), omega (arith, r .lengths .payloads, s .pre .1 .1)), s .pre .0 .incoming)))
 
 gaps-after-requires : tie.Need-gaps-after-requires
 gaps-after-requires c κs = let s = c .before .before .before .before .before .before .before .before .before .before .before .before .before .before in
-    let r = ready-for _ _ _ _ _ (s .pre .0) in
-    (r .gaps-in, (r .gaps-ascend, takes _ _ _ _ _ (s .pre .0) (s .pre .1 .0)))
+    let r = ready-for (s .args .instant) _ _ _ _ (s .pre .0) in
+    (r .gaps-in, (r .gaps-ascend, takes (s .args .instant) _ _ _ _ (s .pre .0) (s .pre .1 .0)))
 
 add-t21 : tie.Need-add-t21
 add-t21 c = let s = c .before .before .before .before .before .before .before .before .before .before .before .before .before .before .before .before .before in
-    let r = ready-for _ _ _ _ _ (s .pre .0) in
+    let r = ready-for (s .args .instant) _ _ _ _ (s .pre .0) in
     omega (arith, r .entries-in .room)
 
 same-length : tie.Need-same-length
@@ -39,7 +39,7 @@ returns : tie.Need-returns
 returns c = let s = c .before .before .before .before .before .before .before .before .before .before .before .before .before .before .before .before .before in
     let g = c .before .before .gaps-after .ensures in
     let i = c .before .before .before .before .before .before .before .before .insert .ensures in
-    inserted-packet _ _ _ _ (stored (s .args .s) (s .args .entries .now) (s .args .payloads .now) (s .args .gaps .now) (s .args .remembered .now)) (s .pre .0) (s .pre .1 .0)
+    inserted-packet (s .args .instant) _ _ _ (stored (s .args .s) (s .args .entries .now) (s .args .payloads .now) (s .args .gaps .now) (s .args .remembered .now)) (s .pre .0) (s .pre .1 .0)
     _ _ _ (c .before .before .before .before .before .before .before .before .before .before .before .queued .ensures) (g .0) (g .1) (s .pre .1 .1) _ _ (i .0) (i .1)
 
 pub insert-packet-spec : {M : Type 1} → statement M

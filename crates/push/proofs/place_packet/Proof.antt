@@ -16,13 +16,13 @@ waits-requires : tie.Need-waits-requires
 waits-requires c κs = search needs
 
 dropped-requires : tie.Need-dropped-requires
-dropped-requires c κs = let s = c .before .before .before .before .before .before .before in dropped-fits _ _ _ _ (stored (s .args .s) (s .args .entries .now) (s .args .payloads .now) (s .args .gaps .now) (s .args .remembered .now)) (s .pre) (sym (c .before .waits .ensures) ∙ not-true _ (c .if1 .taken))
+dropped-requires c κs = let s = c .before .before .before .before .before .before .before in dropped-fits (s .args .instant) _ _ _ (stored (s .args .s) (s .args .entries .now) (s .args .payloads .now) (s .args .gaps .now) (s .args .remembered .now)) (s .pre) (sym (c .before .waits .ensures) ∙ not-true _ (c .if1 .taken))
 
 returns : tie.Need-returns
 unfolding mediaAnswer placedAnswer
 returns c = let s = c .before .before .before .before .before .before .before .before in
     let w : waits (place (s .args .place)) ≡ false = sym (c .before .before .waits .ensures) ∙ not-true _ (c .before .if1 .taken) in
-    (rw w, dropped-packet _ _ _ _ (stored (s .args .s) (s .args .entries .now) (s .args .payloads .now) (s .args .gaps .now) (s .args .remembered .now)) (s .pre) w _ (c .dropped .ensures))
+    (rw w, dropped-packet (s .args .instant) _ _ _ (stored (s .args .s) (s .args .entries .now) (s .args .payloads .now) (s .args .gaps .now) (s .args .remembered .now)) (s .pre) w _ (c .dropped .ensures))
 
 queue-packet-requires : tie.Need-queue-packet-requires
 queue-packet-requires c κs = let s = c .before .before .before .before .before .before .before .before .before .before in (s .pre, sym (c .before .before .before .before .waits .ensures) ∙ not-false _ (c .before .before .before .if1 .left))

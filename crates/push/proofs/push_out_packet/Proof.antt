@@ -7,29 +7,29 @@ use Rattle.push.proofs.push_out_packet.Statement.{statement}
 use Rattle.push.proofs.push_out_packet.Tie as tie
 
 queued-requires : tie.Need-queued-requires
-queued-requires c κs = let s = c .before .before .before .before .before in counters-fit _ _ _ _ _ (s .pre .0) (s .pre .1 .0)
+queued-requires c κs = let s = c .before .before .before .before .before in counters-fit (s .args .instant) _ _ _ _ (s .pre .0) (s .pre .1 .0)
 
 push-out-requires : tie.Need-push-out-requires
 push-out-requires c κs = let s = c .before .before .before .before .before .before .before .before in
-    let r = ready-for _ _ _ _ _ (s .pre .0) in
+    let r = ready-for (s .args .instant) _ _ _ _ (s .pre .0) in
     (r .entries-in, (r .entries-ascend, s .pre .0 .incoming))
 
 gaps-after-requires : tie.Need-gaps-after-requires
 gaps-after-requires c κs = let s = c .before .before .before .before .before .before .before .before .before .before .before .before .before .before in
-    let r = ready-for _ _ _ _ _ (s .pre .0) in
-    (r .gaps-in, (r .gaps-ascend, takes _ _ _ _ _ (s .pre .0) (s .pre .1 .0)))
+    let r = ready-for (s .args .instant) _ _ _ _ (s .pre .0) in
+    (r .gaps-in, (r .gaps-ascend, takes (s .args .instant) _ _ _ _ (s .pre .0) (s .pre .1 .0)))
 
 gaps-from-requires : tie.Need-gaps-from-requires
 gaps-from-requires c κs = let s = c .before .before .before .before .before .before .before .before .before .before .before .before .before .before .before .before .before .before in
     let g = c .before .before .before .gaps-after .ensures in
     let m = stored (s .args .s) (s .args .entries .now) (s .args .payloads .now) (s .args .gaps .now) (s .args .remembered .now) in
-    (opened-in _ _ _ _ m (s .pre .0) (s .pre .1 .0) _ _ (g .0) (g .1), opened-ascend _ _ _ _ m (s .pre .0) (s .pre .1 .0) _ _ (g .0) (g .1))
+    (opened-in (s .args .instant) _ _ _ m (s .pre .0) (s .pre .1 .0) _ _ (g .0) (g .1), opened-ascend (s .args .instant) _ _ _ m (s .pre .0) (s .pre .1 .0) _ _ (g .0) (g .1))
 
 pushed-out-requires : tie.Need-pushed-out-requires
 pushed-out-requires c κs = let s = c .before .before .before .before .before .before .before .before .before .before .before .before .before .before .before .before .before .before .before .before .before in
     let g = c .before .before .before .before .before .before .gaps-after .ensures in
     let m = stored (s .args .s) (s .args .entries .now) (s .args .payloads .now) (s .args .gaps .now) (s .args .remembered .now) in
-    still-fits _ _ _ _ m (s .pre .0) (s .pre .1 .0) (s .pre .1 .1) _ (s .args .s .queue) _ 0 0 _ [] [] [] (c .before .before .before .before .before .before .before .before .before .before .before .before .before .before .before .queued .ensures) (g .0) (g .1)
+    still-fits (s .args .instant) _ _ _ m (s .pre .0) (s .pre .1 .0) (s .pre .1 .1) _ (s .args .s .queue) _ 0 0 _ [] [] [] (c .before .before .before .before .before .before .before .before .before .before .before .before .before .before .before .queued .ensures) (g .0) (g .1)
 
 same-length : tie.Need-same-length
 same-length c = search needs
@@ -46,7 +46,7 @@ returns c = let s = c .before .before .before .before .before .before .before .b
     let i = c .before .before .before .before .before .before .before .before .before .before .before .before .before .push-out .ensures in
     let d = c .before .before .before .gaps-from .ensures in
     let m = stored (s .args .s) (s .args .entries .now) (s .args .payloads .now) (s .args .gaps .now) (s .args .remembered .now) in
-    pushed-out-packet _ _ _ _ m (s .pre .0) (s .pre .1 .0) (s .pre .1 .1) _ _ _ _ _ _ _ _ _ (c .before .before .before .before .before .before .before .before .before .before .before .before .before .before .before .before .queued .ensures) (g .0) (g .1) (c .pushed-out .ensures) (i .0) (i .1 .0) (i .1 .1) (d .0) (d .1)
+    pushed-out-packet (s .args .instant) _ _ _ m (s .pre .0) (s .pre .1 .0) (s .pre .1 .1) _ _ _ _ _ _ _ _ _ (c .before .before .before .before .before .before .before .before .before .before .before .before .before .before .before .before .queued .ensures) (g .0) (g .1) (c .pushed-out .ensures) (i .0) (i .1 .0) (i .1 .1) (d .0) (d .1)
 
 pub push-out-packet-spec : {M : Type 1} → statement M
 push-out-packet-spec =

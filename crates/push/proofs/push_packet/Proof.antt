@@ -1,5 +1,5 @@
 -- `push_packet` meets its contract: turned back under 14 or 12, or placed in the settled storage.
-use Rattle.push.proofs.Pushing.{counts-are, incoming-of, fit-of, place-refused, place-accepted}
+use Rattle.push.proofs.Pushing.{refusal-at, incoming-of, fit-of, place-refused, place-accepted}
 use Rattle.storage.proofs.Settled.{checked}
 use Rattle.push.specs.Answers.{mediaAnswer}
 use Rattle.model.specs.Contract.{stored}
@@ -37,7 +37,7 @@ unfolding mediaPlace parse mediaAnswer
 returns c = let s = c .before .before .before .before .before .before .before .before .before .before .before .before in
     let m = (stored (s .args .s) (s .args .entries .now) (s .args .payloads .now) (s .args .gaps .now) (s .args .remembered .now)) in
     let e = c .before .before .before .before .before .extended-entry in
-    let k = c .before .before .packet-refusal .ensures (s .args .instant) (s .args .payload .now) (parse m) (counts-are m) (sym (e .ensures .1 .0)) in
+    let k = c .before .before .packet-refusal .ensures ∙ refusal-at m (e .result) (s .args .payload .now) _ (e .ensures .1 .0) in
     rw (c .refused .ensures, ← e .ensures .0 (s .args .payload .now)) (place-refused (s .args .instant) (e .result) (s .args .payload .now) _ m (c .before .before .before .media-place .ensures) _ k (c .before .if1 .taken))
 
 settle-requires : tie.Need-settle-requires
@@ -48,7 +48,7 @@ unfolding mediaPlace parse
 place-packet-requires c κs = let s = c .before .before .before .before .before .before .before .before .before .before .before .before .before .before .before .before .before .before .before .before .before .before .before .before .before .before .before .before in
     let m = (stored (s .args .s) (s .args .entries .now) (s .args .payloads .now) (s .args .gaps .now) (s .args .remembered .now)) in
     let e = c .before .before .before .before .before .before .before .before .before .before .before .before .before .before .before .before .before .before .before .before .before .extended-entry in
-    let k = c .before .before .before .before .before .before .before .before .before .before .before .before .before .before .before .before .before .before .packet-refusal .ensures (s .args .instant) (s .args .payload .now) (parse m) (counts-are m) (sym (e .ensures .1 .0)) in
+    let k = c .before .before .before .before .before .before .before .before .before .before .before .before .before .before .before .before .before .before .packet-refusal .ensures ∙ refusal-at m (e .result) (s .args .payload .now) _ (e .ensures .1 .0) in
     fit-of (s .args .instant) (e .result) (s .args .payload .now) _ m (c .before .before .before .before .before .before .before .before .before .before .before .before .before .before .before .before .before .before .before .media-place .ensures) _ (s .pre .0) (c .before .before .before .before .before .before .before .before .before .before .before .before .settle .ensures) (sym k ∙ c .before .before .before .before .before .before .before .before .before .before .before .before .before .before .before .before .before .if1 .left) (incoming-of (e .result) (s .args .payload .now) (s .args .instant) (e .ensures .1 .0) (e .ensures .1 .1) (s .pre .1 .0) (s .pre .1 .1))
 
 same-length-2 : tie.Need-same-length-2
@@ -68,7 +68,7 @@ unfolding mediaPlace parse
 returns-2 c = let s = c .before .before .before .before .before .before .before .before .before .before .before .before .before .before .before .before .before .before .before .before .before .before .before .before .before .before .before .before .before .before .before .before .before .before .before in
     let m = (stored (s .args .s) (s .args .entries .now) (s .args .payloads .now) (s .args .gaps .now) (s .args .remembered .now)) in
     let e = c .before .before .before .before .before .before .before .before .before .before .before .before .before .before .before .before .before .before .before .before .before .before .before .before .before .before .before .before .extended-entry in
-    let k = c .before .before .before .before .before .before .before .before .before .before .before .before .before .before .before .before .before .before .before .before .before .before .before .before .before .packet-refusal .ensures (s .args .instant) (s .args .payload .now) (parse m) (counts-are m) (sym (e .ensures .1 .0)) in
+    let k = c .before .before .before .before .before .before .before .before .before .before .before .before .before .before .before .before .before .before .before .before .before .before .before .before .before .packet-refusal .ensures ∙ refusal-at m (e .result) (s .args .payload .now) _ (e .ensures .1 .0) in
     let p = c .before .before .before .before .before .before .place-packet .ensures in
     rw (← e .ensures .0 (s .args .payload .now)) (place-accepted (s .args .instant) (e .result) (s .args .payload .now) _ m (c .before .before .before .before .before .before .before .before .before .before .before .before .before .before .before .before .before .before .before .before .before .before .before .before .before .before .media-place .ensures) _ _ _ (s .pre .0) (c .before .before .before .before .before .before .before .before .before .before .before .before .before .before .before .before .before .before .before .settle .ensures) (sym k ∙ c .before .before .before .before .before .before .before .before .before .before .before .before .before .before .before .before .before .before .before .before .before .before .before .before .if1 .left) (p .0) (p .1))
 

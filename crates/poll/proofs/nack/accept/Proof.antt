@@ -1,5 +1,6 @@
 -- `accept` meets its contract: `drain`, then the NACKs.
-use mathlib.Core.Path.{_∙_}
+use mathlib.Core.Path.{ap, _∙_}
+use Rattle.model.specs.Calls.{nackAnswer}
 use Rattle.poll.proofs.Nacking.{left-held, left-fits, left-instants, left-none-full, left-count, left-words, left-out}
 use borrow.Author.Needs.{needs}
 use Rattle.poll.proofs.nack.accept.Statement.{statement}
@@ -33,7 +34,7 @@ returns c =
     let d = c .before .before .before .before .before .before .before .before .before .before .drain .ensures in
     let p = c .before .before .before .before .before .poll-nacks .ensures in (
       d .0,
-      (c .answer-of .ensures _ (left-count (a .instant) (a .s) (a .gaps .now) _ (a .given) (a .timings) (s .pre .0) _ (d .0) (d .1) _ (p .0)), (left-words (a .instant) (a .s) (a .gaps .now) _ (a .given) (a .timings) (s .pre .0) _ (d .0) (d .1) _ (p .1 .0), left-out (a .instant) (a .s) (a .gaps .now) _ (a .given) (a .timings) (s .pre .0) _ (d .0) (d .1) (a .out .now) _ (p .1 .1))),
+      (c .answer-of .ensures ∙ ap nackAnswer (left-count (a .instant) (a .s) (a .gaps .now) _ (a .given) (a .timings) (s .pre .0) _ (d .0) (d .1) _ (p .0)), (left-words (a .instant) (a .s) (a .gaps .now) _ (a .given) (a .timings) (s .pre .0) _ (d .0) (d .1) _ (p .1 .0), left-out (a .instant) (a .s) (a .gaps .now) _ (a .given) (a .timings) (s .pre .0) _ (d .0) (d .1) (a .out .now) _ (p .1 .1))),
     )
 
 pub accept-spec : {M : Type 1} → statement M

@@ -21,7 +21,7 @@ or-else-requires c κs = search needs
 early : (c : tie.After-or-else) → (let a = c .before .before .before .before .before .before .before .before .before .before .before .before .args in c .or-else .result ≡ earlyRefusal (a .session .queue .config .settings .«max_gaps») (a .out .now) (a .now) (stored (a .session) (a .entries .now) (a .payloads .now) (a .gaps .now) (a .remembered .now)))
 early c =
     let a = c .before .before .before .before .before .before .before .before .before .before .before .before .args in
-    early-is (stored (a .session) (a .entries .now) (a .payloads .now) (a .gaps .now) (a .remembered .now)) (a .session .queue .config .settings .«max_gaps») (a .now) (a .out .now) _ _ _ (c .or-else .ensures) (c .before .before .session-refusal .ensures) (c .before .output-and-clock-refusal .ensures (a .out .now) refl)
+    early-is (stored (a .session) (a .entries .now) (a .payloads .now) (a .gaps .now) (a .remembered .now)) (a .session .queue .config .settings .«max_gaps») (a .now) (a .out .now) _ _ _ (c .or-else .ensures) (c .before .before .session-refusal .ensures) (c .before .output-and-clock-refusal .ensures)
 
 same-length : tie.Need-same-length
 same-length c = search needs

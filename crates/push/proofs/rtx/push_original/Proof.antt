@@ -1,6 +1,6 @@
 -- `push_original` meets its contract: turned back under 14 or 13, or applied to the settled storage.
 use Rattle.push.proofs.Repaired.{incoming-repair, fit-repair, fate-refused, fate-accepted}
-use Rattle.push.proofs.Pushing.{counts-are}
+use Rattle.push.proofs.Pushing.{refusal-for}
 use Rattle.storage.proofs.Settled.{checked}
 use Rattle.push.specs.Answers.{repairAnswer}
 use Rattle.model.specs.Contract.{stored}
@@ -38,7 +38,7 @@ unfolding repairFate parse repairAnswer
 returns c = let s = c .before .before .before .before .before .before .before .before .before .before .before .before in
     let m = (stored (s .args .s) (s .args .entries .now) (s .args .payloads .now) (s .args .gaps .now) (s .args .remembered .now)) in
     let e = c .before .before .before .before .before .extended-entry in
-    let k = c .before .before .fate-refusal .ensures (s .args .payload .now) (parse m) (counts-are m) (sym (e .ensures .1 .0)) in
+    let k = c .before .before .fate-refusal .ensures ∙ refusal-for m (e .result) (s .args .payload .now) _ (e .ensures .1 .0) in
     rw (c .refused .ensures, ← e .ensures .0 (s .args .payload .now)) (fate-refused (s .args .instant) (e .result) (s .args .payload .now) _ m (c .before .before .before .repair-fate .ensures) _ k (c .before .if1 .taken))
 
 settle-requires : tie.Need-settle-requires
@@ -49,7 +49,7 @@ unfolding repairFate parse
 apply-requires c κs = let s = c .before .before .before .before .before .before .before .before .before .before .before .before .before .before .before .before .before .before .before .before .before .before .before .before .before .before .before .before in
     let m = (stored (s .args .s) (s .args .entries .now) (s .args .payloads .now) (s .args .gaps .now) (s .args .remembered .now)) in
     let e = c .before .before .before .before .before .before .before .before .before .before .before .before .before .before .before .before .before .before .before .before .before .extended-entry in
-    let k = c .before .before .before .before .before .before .before .before .before .before .before .before .before .before .before .before .before .before .fate-refusal .ensures (s .args .payload .now) (parse m) (counts-are m) (sym (e .ensures .1 .0)) in
+    let k = c .before .before .before .before .before .before .before .before .before .before .before .before .before .before .before .before .before .before .fate-refusal .ensures ∙ refusal-for m (e .result) (s .args .payload .now) _ (e .ensures .1 .0) in
     fit-repair (s .args .instant) (e .result) (s .args .payload .now) _ m (c .before .before .before .before .before .before .before .before .before .before .before .before .before .before .before .before .before .before .before .repair-fate .ensures) _ (s .pre .0) (c .before .before .before .before .before .before .before .before .before .before .before .before .settle .ensures) (sym k ∙ c .before .before .before .before .before .before .before .before .before .before .before .before .before .before .before .before .before .if1 .left) (incoming-repair (e .result) (s .args .payload .now) (e .ensures .1 .0) (e .ensures .1 .1) (s .pre .1))
 
 answer-of-requires : tie.Need-answer-of-requires
@@ -72,7 +72,7 @@ unfolding repairFate parse
 returns-2 c = let s = c .before .before .before .before .before .before .before .before .before .before .before .before .before .before .before .before .before .before .before .before .before .before .before .before .before .before .before .before .before .before .before .before .before .before .before .before .before .before in
     let m = (stored (s .args .s) (s .args .entries .now) (s .args .payloads .now) (s .args .gaps .now) (s .args .remembered .now)) in
     let e = c .before .before .before .before .before .before .before .before .before .before .before .before .before .before .before .before .before .before .before .before .before .before .before .before .before .before .before .before .before .before .before .extended-entry in
-    let k = c .before .before .before .before .before .before .before .before .before .before .before .before .before .before .before .before .before .before .before .before .before .before .before .before .before .before .before .before .fate-refusal .ensures (s .args .payload .now) (parse m) (counts-are m) (sym (e .ensures .1 .0)) in
+    let k = c .before .before .before .before .before .before .before .before .before .before .before .before .before .before .before .before .before .before .before .before .before .before .before .before .before .before .before .before .fate-refusal .ensures ∙ refusal-for m (e .result) (s .args .payload .now) _ (e .ensures .1 .0) in
     rw (← e .ensures .0 (s .args .payload .now)) (fate-accepted (s .args .instant) (e .result) (s .args .payload .now) _ m (c .before .before .before .before .before .before .before .before .before .before .before .before .before .before .before .before .before .before .before .before .before .before .before .before .before .before .before .before .before .repair-fate .ensures) _ _ _ (s .pre .0) (c .before .before .before .before .before .before .before .before .before .before .before .before .before .before .before .before .before .before .before .before .before .before .settle .ensures) (sym k ∙ c .before .before .before .before .before .before .before .before .before .before .before .before .before .before .before .before .before .before .before .before .before .before .before .before .before .before .before .if1 .left) (c .answer-of .ensures) (c .before .before .before .before .before .before .before .before .before .apply .ensures))
 
 pub push-original-spec : {M : Type 1} → statement M

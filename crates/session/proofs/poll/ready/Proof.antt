@@ -2,7 +2,7 @@
 use mathlib.Core.Path.{_≡_, sym, ap, _∙_}
 use Rattle.config.specs.declared.RtpInboundQueueMode.{RtpInboundQueueMode}
 use Rattle.config.specs.declared.RtpInboundQueueMode.the-variants.{Passthrough, SortedQueue}
-use Rattle.model.specs.Poll.{ready}
+use Rattle.model.specs.Poll.{readyIn}
 use borrow.Author.Needs.{needs}
 use Rattle.session.proofs.poll.ready.Statement.{statement}
 use Rattle.session.proofs.poll.ready.Tie as tie
@@ -17,16 +17,16 @@ sorted-ready-requires : tie.Need-sorted-ready-requires
 sorted-ready-requires c κs = search needs
 
 returns : tie.Need-returns
-unfolding ready
-returns c e t =
+unfolding readyIn
+returns c =
     let m : c .before .before .before .before .args .q .config .settings .mode ≡ Passthrough = c .enum-told .given .1 in
     rw m
 
 returns-2 : tie.Need-returns-2
-returns-2 c e t =
+returns-2 c =
     let m : c .before .before .before .before .before .args .q .config .settings .mode ≡ SortedQueue = c .before .enum-told2 .given .1 in
     let s = c .before .before .before .before .before in
-    c .sorted-ready .ensures e t ∙ ap (λ (x : RtpInboundQueueMode). ready (s .args .q) x (s .args .q .last) (s .args .now) e) (sym m)
+    c .sorted-ready .ensures ∙ ap (λ (x : RtpInboundQueueMode). readyIn x (s .args .q .config .settings) (s .args .q .last) (s .args .now) (s .args .timestamp .0)) (sym m)
 
 pub ready-spec : {M : Type 1} → statement M
 ready-spec = tie.close (tie.spec enum-told enum-told-2 sorted-ready-requires returns returns-2)

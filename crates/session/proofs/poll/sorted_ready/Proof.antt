@@ -3,7 +3,7 @@ use mathlib.Core.Path.{_≡_, _∙_}
 use native.Mathlib.Omega.{arith}
 use Rattle.config.proofs.Facts.{usable}
 use Rattle.model.specs.declared.LastReceived.the-variants.{None, Some}
-use Rattle.model.specs.Poll.{ready}
+use Rattle.model.specs.Poll.{readyIn}
 use Rattle.session.proofs.Bounds.{last-in}
 use borrow.Author.Needs.{needs}
 use Rattle.session.proofs.poll.sorted_ready.Statement.{statement}
@@ -33,16 +33,16 @@ reaches-requires : tie.Need-reaches-requires
 reaches-requires c κs = search needs
 
 returns : tie.Need-returns
-unfolding ready
-returns c e t =
+unfolding readyIn
+returns c =
     let m : c .before .before .before .before .args .q .last ≡ None = c .enum-told .given .1 in
     rw m
 
 returns-2 : tie.Need-returns-2
-unfolding ready
-returns-2 c e t =
+unfolding readyIn
+returns-2 c =
     let m : c .before .before .before .before .before .before .before .before .args .q .last ≡ Some (c .before .before .before .before .last .given .0 .0) = c .before .before .before .before .last .given .1 in
-    rw (m, t) (c .reaches .ensures ∙ rw (c .before .max-timestamp .ensures, c .before .before .target-delay .ensures))
+    rw m (c .reaches .ensures ∙ rw (c .before .max-timestamp .ensures, c .before .before .target-delay .ensures))
 
 pub sorted-ready-spec : {M : Type 1} → statement M
 sorted-ready-spec =

@@ -29,23 +29,23 @@ enum-told-4 c = search needs
 
 returns : tie.Need-returns
 unfolding tooManyGaps place
-returns c = λ l e. rw (c .before .before .before .place .given .1, e) (c .gaps-full .ensures ∙ rw (c .before .saturating-sub .ensures))
+returns c = rw (c .before .before .before .place .given .1) (c .gaps-full .ensures ∙ rw (c .before .saturating-sub .ensures))
 
 returns-2 : tie.Need-returns-2
 unfolding tooManyGaps place refuseIf
-returns-2 c = λ l e. cc
+returns-2 c = cc
 
 returns-3 : tie.Need-returns-3
 unfolding tooManyGaps place refuseIf
-returns-3 c = λ l e. cc
+returns-3 c = cc
 
 returns-4 : tie.Need-returns-4
 unfolding tooManyGaps place refuseIf
-returns-4 c = λ l e. cc
+returns-4 c = cc
 
 returns-5 : tie.Need-returns-5
 unfolding tooManyGaps place refuseIf
-returns-5 c = λ l e. cc
+returns-5 c = cc
 
 pub gaps-spec : {M : Type 1} → statement M
 gaps-spec =
