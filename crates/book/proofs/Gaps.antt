@@ -12,8 +12,7 @@ use Rattle.config.specs.declared.Settings.{Settings}
 use Rattle.config.specs.declared.NackTimings.{NackTimings}
 use Rattle.model.specs.Lists.{keep, leading, trailing, some?}
 use Rattle.model.specs.Records.{Gap, gapNumbers}
-use Rattle.model.specs.Rules.{is, below, without, gapsBelow, gapsFrom, fresh, due, nacked, nackedIfDue, nackDue, tried}
-use Rattle.model.specs.Poll.{givenUpIn, notGivenUpIn, lostBelow, leftFrom}
+use Rattle.model.specs.Rules.{is, below, without, gapsBelow, gapsFrom, fresh, due, nacked, nackedIfDue, nackDue, tried, givenUpIn, notGivenUpIn, lostBelow, leftFrom}
 use Rattle.model.proofs.Lists.{by-cases, by-or, not-not, eqb-no}
 use Rattle.book.proofs.Count.{by-compare, same, same-yes, same-no, count, count-nil}
 

@@ -14,10 +14,10 @@ use Rattle.config.specs.declared.RtpInboundQueueMode.{RtpInboundQueueMode}
 use Rattle.model.specs.declared.Config.{Config}
 use Rattle.model.specs.Lists.{some?}
 use Rattle.model.specs.Records.{Entry, Gap, State, entryNumbers, gapNumbers, returnedOf}
-use Rattle.model.specs.Rules.{is, Place, placeOf, waits, MAX-GAP-SIZE}
+use Rattle.model.specs.Rules.{is, Place, placeOf, waits, MAX-GAP-SIZE, givenUp, lostBelow}
 use Rattle.model.specs.Push as P
 use Rattle.model.specs.Push.{insertSorted, mediaEntry, mediaPlace, heard, countDropped, countReceived, afterQueued, afterDropped, frontOut, afterMedia, Fate, tooLate, recovered, redundant, repairEntry, repairFate, afterFate, afterRepair}
-use Rattle.model.specs.Poll.{givenUp, lostBelow, lose, countLost, drained, ready, handsOut, goingOut, handOut, afterPoll, afterPollNack}
+use Rattle.model.specs.Poll.{lose, countLost, drained, ready, handsOut, goingOut, handOut, afterPoll, afterPollNack}
 use Rattle.model.specs.Poll as Q
 use Rattle.model.specs.Calls.{Call, media, repair, poll, pollNack, timeoutReceive, timeoutNack, rtxStats, highestReceived, queued, dropped, packetOf, handed, nackAnswer, taken, answered}
 use Rattle.model.proofs.Lists.{by-cases, Each, each-first, each-imp, each-insert}

@@ -15,9 +15,8 @@ use Rattle.config.specs.declared.RtpInboundQueueMode.{RtpInboundQueueMode}
 use Rattle.config.specs.declared.RtpInboundQueueMode.the-variants.{Passthrough, SortedQueue}
 use Rattle.model.specs.Lists.{keep, some?}
 use Rattle.model.specs.Records.{Gap, Remembered, State, highestOf, returnedOf}
-use Rattle.model.specs.Rules.{is, below, gapsBelow, Place, other, placeOf, isOf, forgetFirst, latest, remember, rememberedAfter}
+use Rattle.model.specs.Rules.{is, below, gapsBelow, Place, other, placeOf, isOf, forgetFirst, latest, remember, rememberedAfter, lostBelow}
 use Rattle.model.specs.Push.{atOrBelow, passed, mediaPlace}
-use Rattle.model.specs.Poll.{lostBelow}
 use Rattle.model.proofs.Lists.{by-cases, no-eqb, Each, none, more, each-first, each-rest, each-imp, each-append, each-kept, holds-of-some}
 use Rattle.book.specs.Sorted.{AllAbove, Ascending}
 use Rattle.model.proofs.Sound.{Reached, Ahead, Returned, ListsOf}

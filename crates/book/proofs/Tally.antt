@@ -11,11 +11,10 @@ use Rattle.rtp_packet.specs.Original.{originalNumber}
 use Rattle.model.specs.declared.Config.{Config}
 use Rattle.model.specs.Lists.{following, some?}
 use Rattle.model.specs.Records.{gapNumbers}
-use Rattle.model.specs.Rules.{is, gapsBelow, Place, first, near, far, fills, placeOf, waits, between, fresh, gapsAfter, MAX-GAP-SIZE}
-use Rattle.model.specs.Poll.{givenUp, lostBelow}
+use Rattle.model.specs.Rules.{is, gapsBelow, Place, first, near, far, fills, placeOf, waits, between, fresh, gapsAfter, MAX-GAP-SIZE, givenUp, lostBelow}
 use Rattle.model.specs.Calls.{Call, media, repair, poll, pollNack, timeoutReceive, timeoutNack, rtxStats, highestReceived}
 use Rattle.model.proofs.Lists.{by-cases}
-use Rattle.book.specs.Book.{Heard, refused, accepted, Span, none, fromTo, highest, Book, empty, spanAfter, forgottenBy, arrive, pushOut, overfull, withinDepth, onMedia, recover, notMissing, onRepair, giveUp, takeLowest, onPoll, nackAll, read, enter, allOf, arrived}
+use Rattle.book.specs.Book.{Heard, refused, accepted, Span, none, fromTo, highest, Book, empty, spanAfter, forgottenBy, arrive, pushOut, overfull, withinDepth, onMedia, recover, notMissing, onRepair, giveUp, takeLowest, onPoll, nackAll, read, enter, allOf, expected}
 use Rattle.book.proofs.Count.{same, count, count-append, count-putIn, count-one, count-cons, count-nil, following-append, count-following-le}
 use Rattle.book.proofs.Gaps.{numbers-append, numbers-fresh, numbers-nackDue, count-below, count-given-up, count-lost-below, some-counted, count-without}
 
@@ -28,18 +27,18 @@ Ordered none = Unit {0}
 Ordered (fromTo f h) = f ≤ h
 
 pub record Tally (b : Book) : Type 0 where
-  pub tally : (n : ℕ) → total n b ≡ count n (arrived b)
+  pub tally : (n : ℕ) → total n b ≡ count n (expected b)
   pub ordered : Ordered (b .span)
 
 pub tally-empty : Tally empty
-unfolding empty total arrived allOf Ordered count
+unfolding empty total expected allOf Ordered count
 tally-empty = record { tally = λ n. refl; ordered = tt }
 
 -- a run has a number once
-arrived-once : (n : ℕ) (s : Span) → count n (allOf s) ≤ 1
+expected-once : (n : ℕ) (s : Span) → count n (allOf s) ≤ 1
 unfolding allOf count
-arrived-once n none = omega arith
-arrived-once n (fromTo f h) = count-following-le n f (suc h - f)
+expected-once n none = omega arith
+expected-once n (fromTo f h) = count-following-le n f (suc h - f)
 
 -- ---- the run grows
 
@@ -79,11 +78,11 @@ run-of-one k n = ap (λ (x : ℕ). count k (following n x)) e ∙ count-one k n
 module _ (now n : ℕ) (b : Book) (t : Tally b) where
   -- a missing number is missing once
   missing-once : T (some? (is n) (b .missing)) → count n (gapNumbers (b .missing)) ≡ 1
-  unfolding total arrived
-  missing-once m = omega (arith, t .tally n, arrived-once n (b .span), some-counted n (b .missing) m)
+  unfolding total expected
+  missing-once m = omega (arith, t .tally n, expected-once n (b .span), some-counted n (b .missing) m)
 
   tally-fills : T (some? (is n) (b .missing)) → Tally (arrive now n fills b)
-  unfolding arrive total arrived gapsAfter spanAfter forgottenBy
+  unfolding arrive total expected gapsAfter spanAfter forgottenBy
   tally-fills m =
       record {
         tally = λ k. omega (arith, t .tally k, count-putIn k n (b .waiting), count-without n k (b .missing) (missing-once m), count-append k (b .forgotten) [], count-nil k);
@@ -91,7 +90,7 @@ module _ (now n : ℕ) (b : Book) (t : Tally b) where
       }
 
   tally-first : b .span ≡ none → Tally (arrive now n first b)
-  unfolding arrive total arrived allOf gapsAfter spanAfter forgottenBy Ordered
+  unfolding arrive total expected allOf gapsAfter spanAfter forgottenBy Ordered
   tally-first e =
       record {
         tally = λ k. omega (arith, rw e at (t .tally k), count-putIn k n (b .waiting), run-of-one k n, count-append k (b .forgotten) [], count-nil k);
@@ -104,11 +103,11 @@ module _ (now n : ℕ) (b : Book) (t : Tally b) where
     in-order = rw e at (t .ordered)
 
     tally-up : (k : ℕ) → total k b + (count k (between h n) + same k n) ≡ count k (allOf (fromTo f n))
-    unfolding arrived allOf
+    unfolding expected allOf
     tally-up k = omega (arith, t .tally k, ap (λ (s : Span). count k (allOf s)) e, count-grown k f h n in-order lt)
 
     tally-near : Tally (arrive now n (near h) b)
-    unfolding arrive arrived total gapsAfter spanAfter forgottenBy Ordered
+    unfolding arrive expected total gapsAfter spanAfter forgottenBy Ordered
     tally-near =
         rw e (record {
           tally = λ k. omega (arith, tally-up k, count-putIn k n (b .waiting), missing-more k, count-append k (b .forgotten) [], count-nil k);
@@ -119,7 +118,7 @@ module _ (now n : ℕ) (b : Book) (t : Tally b) where
         missing-more k = rw (numbers-append, numbers-fresh, count-append)
 
     tally-far : Tally (arrive now n (far h) b)
-    unfolding arrive arrived total gapsAfter spanAfter forgottenBy Ordered
+    unfolding arrive expected total gapsAfter spanAfter forgottenBy Ordered
     tally-far =
         rw e (record {
           tally =
@@ -131,7 +130,7 @@ module _ (now n : ℕ) (b : Book) (t : Tally b) where
 -- ---- a number goes out
 
 tally-pushOut : (l : List ℕ) (b : Book) → b .waiting ≡ l → Tally b → Tally (pushOut l b)
-unfolding pushOut total arrived
+unfolding pushOut total expected
 tally-pushOut [] b e t = t
 tally-pushOut (w ∷ ws) b e t =
     record {
@@ -146,7 +145,7 @@ unfolding withinDepth
 tally-withinDepth depth b t = by-cases Tally (overfull depth b) (λ u. tally-pushOut (b .waiting) b refl t) (λ u. t)
 
 tally-giveUp : (c : Config) (b : Book) → Tally b → Tally (giveUp c b)
-unfolding giveUp total arrived
+unfolding giveUp total expected
 tally-giveUp c b t =
     record {
       tally =
@@ -156,7 +155,7 @@ tally-giveUp c b t =
     }
 
 tally-takeLowest : (c : Config) (l : List ℕ) (b : Book) → b .waiting ≡ l → Tally b → Tally (takeLowest c l b)
-unfolding takeLowest total arrived
+unfolding takeLowest total expected
 tally-takeLowest c [] b e t = t
 tally-takeLowest c (w ∷ ws) b e t =
     record {
@@ -184,7 +183,7 @@ tally-media c now n b (fromTo f h) e t =
     arrives p = Tally (cond (waits p) (withinDepth (c .settings .«max_entries») (arrive now n p b)) b)
 
 tally-repair : (now n : ℕ) (b : Book) → Tally b → Tally (onRepair now n b)
-unfolding onRepair recover notMissing total arrived
+unfolding onRepair recover notMissing total expected
 tally-repair now n b t =
     by-cases Tally (some? (is n) (b .missing))
     (λ m.
@@ -200,7 +199,7 @@ tally-poll c true b t = tally-takeLowest c (b .waiting) (giveUp c b) refl (tally
 tally-poll c false b t = tally-giveUp c b t
 
 tally-nackAll : (c : Config) (now : ℕ) (b : Book) → Tally b → Tally (nackAll c now b)
-unfolding nackAll total arrived
+unfolding nackAll total expected
 tally-nackAll c now b t = record { tally = λ k. rw numbers-nackDue (t .tally k); ordered = t .ordered }
 
 pub tally-enter : (c : Config) (k : Call) (heard : Heard) (b : Book) → Tally b → Tally (enter c k heard b)

@@ -23,14 +23,14 @@ use Rattle.model.proofs.Laid.{parse-write}
 use Rattle.model.proofs.Lists.{none, by-cases}
 use Rattle.book.specs.Sorted.{putAllIn, sort, Ascending}
 use Rattle.book.specs.Book as B
-use Rattle.book.specs.Book.{Span, none, fromTo, Book, empty, enter, allOf, arrived, accounted}
+use Rattle.book.specs.Book.{Span, none, fromTo, Book, empty, enter, allOf, expected, accounted}
 use Rattle.book.specs.Claim.{hear, given, Run, start, call, calls, InOrder, Holds, Step, EveryListOfCalls}
 use Rattle.book.specs.Code.{Made, opening, further, EveryRun}
 use Rattle.book.proofs.Count.{count, count-append, count-putAllIn, count-sort, Sorted, sorted-putAllIn, sorted-sort, sorted-same, sorted-following, none-counted}
 use Rattle.book.proofs.Tally.{total, Tally, tally-empty, tally-enter}
 use Rattle.model.proofs.Sound.{Sound, ListsOf}
 use Rattle.book.proofs.Order.{rising-ascending}
-use Rattle.model.proofs.SoundCalls.{payloads-fit, sound-session, left-sound, did-taken, never-locks-up}
+use Rattle.model.proofs.SoundCalls.{payloads-fit, sound-session, left-sound, did-taken, stays-sound}
 use Rattle.book.proofs.Past.{PastOf, past-none, past-ascends}
 use Rattle.book.proofs.Same.{Same, same-taken}
 use Rattle.book.proofs.Moved.{outOf, given-out, moved-taken, past-taken, enter-forgets}
@@ -43,7 +43,7 @@ span-sorted none = tt
 span-sorted (fromTo f h) = sorted-following f (suc h - f)
 
 module _ (b : Book) (t : Tally b) where
-  count-accounted : (n : ℕ) → count n (accounted b) + count n (b .forgotten) ≡ count n (arrived b)
+  count-accounted : (n : ℕ) → count n (accounted b) + count n (b .forgotten) ≡ count n (expected b)
   unfolding accounted total
   count-accounted n =
       omega (
@@ -54,13 +54,13 @@ module _ (b : Book) (t : Tally b) where
         count-append n (gapNumbers (b .missing)) (b .lost),
       )
 
-  whole : arrived b ≡ putAllIn (b .forgotten) (sort (accounted b))
-  unfolding arrived
+  whole : expected b ≡ putAllIn (b .forgotten) (sort (accounted b))
+  unfolding expected
   whole =
-      sorted-same (arrived b) (putAllIn (b .forgotten) (sort (accounted b))) (span-sorted (b .span)) (sorted-putAllIn (b .forgotten) (sort (accounted b)) (sorted-sort (accounted b)))
+      sorted-same (expected b) (putAllIn (b .forgotten) (sort (accounted b))) (span-sorted (b .span)) (sorted-putAllIn (b .forgotten) (sort (accounted b)) (sorted-sort (accounted b)))
       (λ n. omega (arith, count-accounted n, count-putAllIn n (b .forgotten) (sort (accounted b)), count-sort n (accounted b)))
 
-  exactly : (arrived b ≡ sort (accounted b)) ↔ (b .forgotten ≡ [])
+  exactly : (expected b ≡ sort (accounted b)) ↔ (b .forgotten ≡ [])
   unfolding putAllIn
   exactly = (
     (λ e. none-counted (b .forgotten) (λ n. omega (arith, count-accounted n, count-sort n (accounted b), ap (count n) e))),
@@ -129,7 +129,7 @@ record Left (c : Config) (x : Run) : Type 0 where
 
 left-start : (c : Config) (t : Storage) → openingRefusal c t ≡ 0 → Left c (start c)
 unfolding start
-left-start c t e = record { sound = never-locks-up .at-opening c t e; inv = rw read-new (inv-new c) }
+left-start c t e = record { sound = stays-sound .at-opening c t e; inv = rw read-new (inv-new c) }
 
 module _ (c : Config) (x : Run) (k : Call) (r : Left c x) where
   -- the run after what the call did
@@ -141,7 +141,7 @@ module _ (c : Config) (x : Run) (k : Call) (r : Left c x) where
   left-accepted t =
       let e : refusal k (x .stored) ≡ 0 = eqb→eq (refusal k (x .stored)) 0 t in
       record {
-        sound = subst (λ (m : Stored). sessionRefusal m ≡ 0) (did-taken k (x .stored) e) (never-locks-up .at-call k (x .stored) e);
+        sound = subst (λ (m : Stored). sessionRefusal m ≡ 0) (did-taken k (x .stored) e) (stays-sound .at-call k (x .stored) e);
         inv = rw (read-taken k (x .stored) e) (inv-taken k (sound-session (x .stored) (r .sound) .lists-in) (r .inv));
       }
 

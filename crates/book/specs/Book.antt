@@ -14,8 +14,7 @@ use Rattle.rtx_state.specs.declared.OptRtt.the-variants as OptRtt
 use Rattle.model.specs.declared.Config.{Config}
 use Rattle.model.specs.Lists.{following, keep, some?}
 use Rattle.model.specs.Records.{Gap, Remembered, gapNumbers}
-use Rattle.model.specs.Rules.{extended, is, gapOf, without, gapsBelow, gapsFrom, Place, first, near, far, fills, other, placeOf, waits, between, gapsAfter, timingsIn, nackDue, onceOf, instantOf, sampledAt, isOf, forgetFirst, rememberedAfter}
-use Rattle.model.specs.Poll.{givenUp, notGivenUp, lostBelow, leftFrom}
+use Rattle.model.specs.Rules.{extended, is, gapOf, without, gapsBelow, gapsFrom, Place, first, near, far, fills, other, placeOf, waits, between, gapsAfter, timingsIn, nackDue, onceOf, instantOf, sampledAt, isOf, forgetFirst, rememberedAfter, givenUp, notGivenUp, lostBelow, leftFrom}
 use Rattle.model.specs.Calls.{Call, media, repair, poll, pollNack, timeoutReceive, timeoutNack, rtxStats, highestReceived}
 use Rattle.book.specs.Sorted.{putIn}
 
@@ -51,6 +50,33 @@ pub record Book : Type 0 where
 unfoldable pub empty : Book
 empty = record { span = none; waiting = []; missing = []; handed = []; lost = []; forgotten = []; estimate = OptRtt.None; remembered = [] }
 
+-- ---- one field at a time: a record has no update
+
+module _ (b : Book) where
+  abbrev pub withSpan : Span → Book
+  withSpan x = record { span = x; waiting = b .waiting; missing = b .missing; handed = b .handed; lost = b .lost; forgotten = b .forgotten; estimate = b .estimate; remembered = b .remembered }
+
+  abbrev pub withWaiting : List ℕ → Book
+  withWaiting x = record { span = b .span; waiting = x; missing = b .missing; handed = b .handed; lost = b .lost; forgotten = b .forgotten; estimate = b .estimate; remembered = b .remembered }
+
+  abbrev pub withMissing : List Gap → Book
+  withMissing x = record { span = b .span; waiting = b .waiting; missing = x; handed = b .handed; lost = b .lost; forgotten = b .forgotten; estimate = b .estimate; remembered = b .remembered }
+
+  abbrev pub withHanded : List ℕ → Book
+  withHanded x = record { span = b .span; waiting = b .waiting; missing = b .missing; handed = x; lost = b .lost; forgotten = b .forgotten; estimate = b .estimate; remembered = b .remembered }
+
+  abbrev pub withLost : List ℕ → Book
+  withLost x = record { span = b .span; waiting = b .waiting; missing = b .missing; handed = b .handed; lost = x; forgotten = b .forgotten; estimate = b .estimate; remembered = b .remembered }
+
+  abbrev pub withForgotten : List ℕ → Book
+  withForgotten x = record { span = b .span; waiting = b .waiting; missing = b .missing; handed = b .handed; lost = b .lost; forgotten = x; estimate = b .estimate; remembered = b .remembered }
+
+  abbrev pub withEstimate : OptRtt → Book
+  withEstimate x = record { span = b .span; waiting = b .waiting; missing = b .missing; handed = b .handed; lost = b .lost; forgotten = b .forgotten; estimate = x; remembered = b .remembered }
+
+  abbrev pub withRemembered : List Remembered → Book
+  withRemembered x = record { span = b .span; waiting = b .waiting; missing = b .missing; handed = b .handed; lost = b .lost; forgotten = b .forgotten; estimate = b .estimate; remembered = x }
+
 -- ---- media
 
 unfoldable pub spanAfter : ℕ → Place → Span → Span
@@ -73,31 +99,14 @@ forgottenBy n other l = []
 -- "the first waits. One s above the highest waits; those between go missing or .. are forgotten .. . A missing one waits"
 unfoldable pub arrive : ℕ → ℕ → Place → Book → Book
 arrive now n p b =
-    record {
-      span = spanAfter n p (b .span);
-      waiting = putIn n (b .waiting);
-      missing = gapsAfter now n p (b .missing);
-      handed = b .handed;
-      lost = b .lost;
-      forgotten = b .forgotten ++ forgottenBy n p (b .missing);
-      estimate = b .estimate;
-      remembered = b .remembered;
-    }
+    withForgotten (withMissing (withWaiting (withSpan b (spanAfter n p (b .span))) (putIn n (b .waiting))) (gapsAfter now n p (b .missing)))
+    (b .forgotten ++ forgottenBy n p (b .missing))
 
 -- "the lowest waiting and all missing below it are forgotten"
 unfoldable pub pushOut : List ℕ → Book → Book
 pushOut [] b = b
 pushOut (w ∷ ws) b =
-    record {
-      span = b .span;
-      waiting = ws;
-      missing = gapsFrom w (b .missing);
-      handed = b .handed;
-      lost = b .lost;
-      forgotten = b .forgotten ++ (w ∷ gapNumbers (gapsBelow w (b .missing)));
-      estimate = b .estimate;
-      remembered = b .remembered;
-    }
+    withForgotten (withMissing (withWaiting b ws) (gapsFrom w (b .missing))) (b .forgotten ++ (w ∷ gapNumbers (gapsBelow w (b .missing))))
 
 -- "over D now do"
 unfoldable pub overfull : ℕ → Book → Bool
@@ -115,30 +124,12 @@ onMedia c now n p b = cond (waits p) (withinDepth (c .settings .«max_entries»)
 -- "a missing number waits"
 unfoldable pub recover : ℕ → ℕ → Book → Book
 recover now n b =
-    record {
-      span = b .span;
-      waiting = putIn n (b .waiting);
-      missing = without n (b .missing);
-      handed = b .handed;
-      lost = b .lost;
-      forgotten = b .forgotten;
-      estimate = sampledAt now (onceOf (gapOf n (b .missing))) (b .estimate);
-      remembered = b .remembered;
-    }
+    withEstimate (withMissing (withWaiting b (putIn n (b .waiting))) (without n (b .missing))) (sampledAt now (onceOf (gapOf n (b .missing))) (b .estimate))
 
 -- a remembered number gives a sample; any other does nothing
 unfoldable pub notMissing : ℕ → ℕ → Book → Book
 notMissing now n b =
-    record {
-      span = b .span;
-      waiting = b .waiting;
-      missing = b .missing;
-      handed = b .handed;
-      lost = b .lost;
-      forgotten = b .forgotten;
-      estimate = sampledAt now (instantOf (keep (isOf n) (b .remembered))) (b .estimate);
-      remembered = forgetFirst n (b .remembered);
-    }
+    withRemembered (withEstimate b (sampledAt now (instantOf (keep (isOf n) (b .remembered))) (b .estimate))) (forgetFirst n (b .remembered))
 
 unfoldable pub onRepair : ℕ → ℕ → Book → Book
 onRepair now n b = cond (some? (is n) (b .missing)) (recover now n b) (notMissing now n b)
@@ -147,39 +138,22 @@ onRepair now n b = cond (some? (is n) (b .missing)) (recover now n b) (notMissin
 
 -- "missing ones become lost as under Hand-out"
 unfoldable pub giveUp : Config → Book → Book
-giveUp c b =
-    record {
-      span = b .span;
-      waiting = b .waiting;
-      missing = notGivenUp (c .settings) (b .missing);
-      handed = b .handed;
-      lost = b .lost ++ gapNumbers (givenUp (c .settings) (b .missing));
-      forgotten = b .forgotten;
-      estimate = b .estimate;
-      remembered = b .remembered;
-    }
+giveUp c b = withLost (withMissing b (notGivenUp (c .settings) (b .missing))) (b .lost ++ gapNumbers (givenUp (c .settings) (b .missing)))
 
 -- "a `poll` that hands out takes the lowest waiting"
 unfoldable pub takeLowest : Config → List ℕ → Book → Book
 takeLowest c [] b = b
 takeLowest c (w ∷ ws) b =
-    record {
-      span = b .span;
-      waiting = ws;
-      missing = leftFrom (c .settings .mode) w (b .missing);
-      handed = b .handed ++ (w ∷ []);
-      lost = b .lost ++ gapNumbers (lostBelow (c .settings .mode) w (b .missing));
-      forgotten = b .forgotten;
-      estimate = b .estimate;
-      remembered = rememberedAfter (c .senders .«has_rtx») (lostBelow (c .settings .mode) w (b .missing)) (b .remembered);
-    }
+    let lost = lostBelow (c .settings .mode) w (b .missing) in
+    withRemembered
+    (withLost (withHanded (withMissing (withWaiting b ws) (leftFrom (c .settings .mode) w (b .missing))) (b .handed ++ (w ∷ []))) (b .lost ++ gapNumbers lost))
+    (rememberedAfter (c .senders .«has_rtx») lost (b .remembered))
 
 unfoldable pub onPoll : Config → Bool → Book → Book
 onPoll c out b = cond out (takeLowest c (b .waiting) (giveUp c b)) (giveUp c b)
 
 unfoldable pub nackAll : Config → ℕ → Book → Book
-nackAll c now b =
-    record { span = b .span; waiting = b .waiting; missing = nackDue (timingsIn c (b .estimate)) now (b .missing); handed = b .handed; lost = b .lost; forgotten = b .forgotten; estimate = b .estimate; remembered = b .remembered }
+nackAll c now b = withMissing b (nackDue (timingsIn c (b .estimate)) now (b .missing))
 
 -- ---- any call
 
@@ -208,9 +182,9 @@ allOf none = []
 allOf (fromTo f h) = following f (suc h - f)
 
 -- "all from the first accepted media packet to the highest"
-unfoldable pub arrived : Book → List ℕ
+unfoldable pub expected : Book → List ℕ
 unfolding allOf
-arrived b = allOf (b .span)
+expected b = allOf (b .span)
 
 -- "those handed out, waiting, missing or lost"
 unfoldable pub accounted : Book → List ℕ

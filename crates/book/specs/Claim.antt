@@ -18,7 +18,7 @@ use Rattle.model.specs.Table.{openingRefusal}
 use Rattle.model.specs.Did.{did, session, opened}
 use Rattle.book.specs.Sorted.{putAllIn, sort, Ascending}
 use Rattle.book.specs.Book as B
-use Rattle.book.specs.Book.{Heard, Book, fromTo, empty, enter, read, arrive, overfull, arrived, accounted}
+use Rattle.book.specs.Book.{Heard, Book, fromTo, empty, enter, read, arrive, overfull, expected, accounted}
 
 -- ---- lists of calls
 
@@ -77,9 +77,9 @@ InOrder SortedQueue l = Ascending l
 pub record Holds (c : Config) (x : Run) : Type 0 where
   -- "two lists of sequence numbers are afterwards equal exactly when no number was forgotten: all from the first accepted media packet to
   -- the highest, and those handed out, waiting, missing or lost, sorted, repeats kept"
-  pub exactly : (arrived (x .book) ≡ sort (accounted (x .book))) ↔ (x .book .forgotten ≡ [])
+  pub exactly : (expected (x .book) ≡ sort (accounted (x .book))) ↔ (x .book .forgotten ≡ [])
   -- "Otherwise the first is the second with the forgotten numbers sorted in, each once"
-  pub whole : arrived (x .book) ≡ putAllIn (x .book .forgotten) (sort (accounted (x .book)))
+  pub whole : expected (x .book) ≡ putAllIn (x .book .forgotten) (sort (accounted (x .book)))
   -- "The session's entries are exactly the book's waiting numbers and its gaps the missing ones", with their NACKs
   pub entries : entryNumbers (parse (x .stored) .entries) ≡ x .book .waiting
   pub gaps : parse (x .stored) .gaps ≡ x .book .missing
@@ -104,7 +104,7 @@ pub data ForgetsBy (c : Config) (b : Book) : Call → Type 0 where
 
 -- What one more call does.
 pub record Step (c : Config) (x : Run) (k : Call) : Type 0 where
-  -- "each `poll` and `poll_nack` raises the lost count by the newly lost ones", and no other call does
+  -- "each `poll` and `poll_nack` raises the lost count by the newly lost ones"; at any other call `enter` loses none
   pub newly : List ℕ
   pub lost : call c x k .book .lost ≡ x .book .lost ++ newly
   pub counted : parse (call c x k .stored) .queue .counters .lost ≡ parse (x .stored) .queue .counters .lost + length newly

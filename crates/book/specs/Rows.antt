@@ -17,7 +17,7 @@ use Rattle.model.specs.Rules.{extended, timingsIn, fresh, due}
 use Rattle.model.specs.Storage.{parse}
 use Rattle.model.specs.Calls.{media}
 use Rattle.book.specs.Sorted.{sort}
-use Rattle.book.specs.Book.{arrived, accounted}
+use Rattle.book.specs.Book.{expected, accounted}
 use Rattle.book.specs.Claim.{Run, calls}
 
 -- ---- what a row asks, and what it says
@@ -100,7 +100,7 @@ unfoldable pub answer : Question → Found
 unfolding received
 answer (reference highest n) = number (extended 16 (Opt.Some highest) n)
 answer (counts D numbers) = counted (length (parse (received D numbers .stored) .gaps)) (length (received D numbers .book .forgotten))
-answer (lists D numbers) = listed (arrived (received D numbers .book)) (sort (accounted (received D numbers .book)))
+answer (lists D numbers) = listed (expected (received D numbers .book)) (sort (accounted (received D numbers .book)))
 answer (samples l) = estimate (foldl sampledRtt OptRtt.None l)
 answer (nackDue initialDelay detected now) = isDue (due (timingsIn (config 1 initialDelay) OptRtt.None) now (fresh detected 0))
 answer (repairPayload p) = cond (eqb (originalRefusal p) 0) (original (originalNumber p) (originalPayload p)) (refused (originalRefusal p))

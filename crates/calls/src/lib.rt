@@ -2,7 +2,7 @@
 ghost use mathlib.Core.Path.{_≡_};
 ghost use lib.ListN.{take};
 ghost use Rattle.model.specs.Calls as Calls;
-ghost use Rattle.model.specs.Contract.{stored};
+ghost use Rattle.model.specs.Contract.{before, after};
 ghost use Rattle.put.specs.Text.{output};
 ghost use Rattle.calls.specs.Answered.{Answered, OneLine, pollCall, nackCall, queueCall, sessionCall, sizeOf};
 use model::Session;
@@ -47,7 +47,7 @@ pub fn media(
     out: &mut [u8],
     at: usize,
 ) -> Made
-    ensures { λ r. ⌜ Answered (Calls.media now (datagram .entry .now)) (stored s (entries .entry .now) (payloads .entry .now) (gaps .entry .now) (remembered .entry .now)) (stored (r .session) (entries .exit .now) (payloads .exit .now) (gaps .exit .now) (remembered .exit .now)) (output (out .entry .now) at) (output (out .exit .now) (r .at)) ⌝ }
+    ensures { λ r. ⌜ Answered (Calls.media now (datagram .entry .now)) (before entries payloads gaps remembered s) (after entries payloads gaps remembered (r .session)) (output (out .entry .now) at) (output (out .exit .now) (r .at)) ⌝ }
 {
     let done = push::push(s, entries, payloads, gaps, remembered, now, datagram);
     let answer = done.answer;
@@ -67,7 +67,7 @@ pub fn repair(
     out: &mut [u8],
     at: usize,
 ) -> Made
-    ensures { λ r. ⌜ Answered (Calls.repair now (datagram .entry .now)) (stored s (entries .entry .now) (payloads .entry .now) (gaps .entry .now) (remembered .entry .now)) (stored (r .session) (entries .exit .now) (payloads .exit .now) (gaps .exit .now) (remembered .exit .now)) (output (out .entry .now) at) (output (out .exit .now) (r .at)) ⌝ }
+    ensures { λ r. ⌜ Answered (Calls.repair now (datagram .entry .now)) (before entries payloads gaps remembered s) (after entries payloads gaps remembered (r .session)) (output (out .entry .now) at) (output (out .exit .now) (r .at)) ⌝ }
 {
     let done = push::rtx::push_rtx(s, entries, payloads, gaps, remembered, now, datagram);
     let answer = done.answer;
@@ -87,7 +87,7 @@ pub fn poll(
     out: &mut [u8],
     at: usize,
 ) -> Made
-    ensures { λ r. ⌜ Answered (pollCall now) (stored s (entries .entry .now) (payloads .entry .now) (gaps .entry .now) (remembered .entry .now)) (stored (r .session) (entries .exit .now) (payloads .exit .now) (gaps .exit .now) (remembered .exit .now)) (output (out .entry .now) at) (output (out .exit .now) (r .at)) ⌝ }
+    ensures { λ r. ⌜ Answered (pollCall now) (before entries payloads gaps remembered s) (after entries payloads gaps remembered (r .session)) (output (out .entry .now) at) (output (out .exit .now) (r .at)) ⌝ }
 {
     let mut payload = [0u8; 320];
     let done = poll::poll(s, entries, payloads, gaps, remembered, now, &mut payload);
@@ -108,7 +108,7 @@ pub fn poll_nack(
     out: &mut [u8],
     at: usize,
 ) -> Made
-    ensures { λ r. ⌜ Answered (nackCall now) (stored s (entries .entry .now) (payloads .entry .now) (gaps .entry .now) (remembered .entry .now)) (stored (r .session) (entries .exit .now) (payloads .exit .now) (gaps .exit .now) (remembered .exit .now)) (output (out .entry .now) at) (output (out .exit .now) (r .at)) ⌝ }
+    ensures { λ r. ⌜ Answered (nackCall now) (before entries payloads gaps remembered s) (after entries payloads gaps remembered (r .session)) (output (out .entry .now) at) (output (out .exit .now) (r .at)) ⌝ }
 {
     let mut numbers = [0u16; MAX_GAPS];
     let done = poll::nack::poll_nack(s, entries, payloads, gaps, remembered, now, &mut numbers);
@@ -175,7 +175,7 @@ pub fn make(
     out: &mut [u8],
     at: usize,
 ) -> Made
-    ensures { λ r. ⌜ Answered (queueCall call (sent .entry .now)) (stored s (entries .entry .now) (payloads .entry .now) (gaps .entry .now) (remembered .entry .now)) (stored (r .session) (entries .exit .now) (payloads .exit .now) (gaps .exit .now) (remembered .exit .now)) (output (out .entry .now) at) (output (out .exit .now) (r .at)) ⌝ }
+    ensures { λ r. ⌜ Answered (queueCall call (sent .entry .now)) (before entries payloads gaps remembered s) (after entries payloads gaps remembered (r .session)) (output (out .entry .now) at) (output (out .exit .now) (r .at)) ⌝ }
 {
     match call {
         SessionCall::Media(d) => {

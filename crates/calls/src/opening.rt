@@ -1,6 +1,6 @@
 // `open` (docs/TRACE.md, "open"), with its answer's line put into a lent output from the place `at` on.
 ghost use mathlib.Core.Path.{_≡_};
-ghost use Rattle.model.specs.Contract.{storage};
+ghost use Rattle.model.specs.Contract.{lent, left};
 ghost use Rattle.queue.specs.Answers.{openingAnswer};
 ghost use Rattle.put.specs.Text.{output};
 ghost use Rattle.calls.specs.Opening.{fits, Narrow, modeOf, configOf, openedWith, OpenAnswered};
@@ -82,7 +82,7 @@ fn open_with(
     gaps: &mut [u64],
     remembered: &mut [u64],
 ) -> Opening
-    ensures { λ r. ⌜ openedWith f (storage (entries .entry .now) (payloads .entry .now) (gaps .entry .now) (remembered .entry .now)) ≡ record { answer = openingAnswer r; storage = storage (entries .exit .now) (payloads .exit .now) (gaps .exit .now) (remembered .exit .now) } ⌝ }
+    ensures { λ r. ⌜ openedWith f (lent entries payloads gaps remembered) ≡ record { answer = openingAnswer r; storage = left entries payloads gaps remembered } ⌝ }
 {
     if fit(f) {
         return queue::open::open(config_of(f), entries, payloads, gaps, remembered);
@@ -99,7 +99,7 @@ pub fn open(
     out: &mut [u8],
     at: usize,
 ) -> Opened
-    ensures { λ r. ⌜ OpenAnswered f (storage (entries .entry .now) (payloads .entry .now) (gaps .entry .now) (remembered .entry .now)) (openingAnswer (r .opening)) (storage (entries .exit .now) (payloads .exit .now) (gaps .exit .now) (remembered .exit .now)) (output (out .entry .now) at) (output (out .exit .now) (r .at)) ⌝ }
+    ensures { λ r. ⌜ OpenAnswered f (lent entries payloads gaps remembered) (openingAnswer (r .opening)) (left entries payloads gaps remembered) (output (out .entry .now) at) (output (out .exit .now) (r .at)) ⌝ }
 {
     let opening = open_with(f, entries, payloads, gaps, remembered);
     let to = answers::opening(out, at, opening);

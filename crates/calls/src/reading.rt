@@ -1,6 +1,6 @@
 // The calls that leave the session as it is, whose answer is the place behind the line.
 ghost use Rattle.model.specs.Calls as Calls;
-ghost use Rattle.model.specs.Contract.{stored};
+ghost use Rattle.model.specs.Contract.{before, after};
 ghost use Rattle.put.specs.Text.{output};
 ghost use Rattle.calls.specs.Answered.{Answered, readingCall};
 use model::Session;
@@ -23,7 +23,7 @@ pub fn timeout_receive(
     out: &mut [u8],
     at: usize,
 ) -> usize
-    ensures { λ r. ⌜ Answered (Calls.timeoutReceive now) (stored s (entries .entry .now) (payloads .entry .now) (gaps .entry .now) (remembered .entry .now)) (stored s (entries .exit .now) (payloads .exit .now) (gaps .exit .now) (remembered .exit .now)) (output (out .entry .now) at) (output (out .exit .now) r) ⌝ }
+    ensures { λ r. ⌜ Answered (Calls.timeoutReceive now) (before entries payloads gaps remembered s) (after entries payloads gaps remembered s) (output (out .entry .now) at) (output (out .exit .now) r) ⌝ }
 {
     let a = reading::timeout_receive(s, entries, payloads, gaps, remembered, now);
     answers::timeout(out, at, a)
@@ -39,7 +39,7 @@ pub fn timeout_nack(
     out: &mut [u8],
     at: usize,
 ) -> usize
-    ensures { λ r. ⌜ Answered (Calls.timeoutNack now) (stored s (entries .entry .now) (payloads .entry .now) (gaps .entry .now) (remembered .entry .now)) (stored s (entries .exit .now) (payloads .exit .now) (gaps .exit .now) (remembered .exit .now)) (output (out .entry .now) at) (output (out .exit .now) r) ⌝ }
+    ensures { λ r. ⌜ Answered (Calls.timeoutNack now) (before entries payloads gaps remembered s) (after entries payloads gaps remembered s) (output (out .entry .now) at) (output (out .exit .now) r) ⌝ }
 {
     let a = reading::timeout_nack(s, entries, payloads, gaps, remembered, now);
     answers::timeout(out, at, a)
@@ -54,7 +54,7 @@ pub fn rtx_stats(
     out: &mut [u8],
     at: usize,
 ) -> usize
-    ensures { λ r. ⌜ Answered Calls.rtxStats (stored s (entries .entry .now) (payloads .entry .now) (gaps .entry .now) (remembered .entry .now)) (stored s (entries .exit .now) (payloads .exit .now) (gaps .exit .now) (remembered .exit .now)) (output (out .entry .now) at) (output (out .exit .now) r) ⌝ }
+    ensures { λ r. ⌜ Answered Calls.rtxStats (before entries payloads gaps remembered s) (after entries payloads gaps remembered s) (output (out .entry .now) at) (output (out .exit .now) r) ⌝ }
 {
     let a = reading::rtx_stats(s, entries, payloads, gaps, remembered);
     answers::rtx_stats(out, at, a)
@@ -69,7 +69,7 @@ pub fn highest(
     out: &mut [u8],
     at: usize,
 ) -> usize
-    ensures { λ r. ⌜ Answered Calls.highestReceived (stored s (entries .entry .now) (payloads .entry .now) (gaps .entry .now) (remembered .entry .now)) (stored s (entries .exit .now) (payloads .exit .now) (gaps .exit .now) (remembered .exit .now)) (output (out .entry .now) at) (output (out .exit .now) r) ⌝ }
+    ensures { λ r. ⌜ Answered Calls.highestReceived (before entries payloads gaps remembered s) (after entries payloads gaps remembered s) (output (out .entry .now) at) (output (out .exit .now) r) ⌝ }
 {
     let a = reading::highest_sequence_number_received(s, entries, payloads, gaps, remembered);
     answers::highest(out, at, a)
@@ -85,7 +85,7 @@ pub fn make(
     out: &mut [u8],
     at: usize,
 ) -> usize
-    ensures { λ r. ⌜ Answered (readingCall call) (stored s (entries .entry .now) (payloads .entry .now) (gaps .entry .now) (remembered .entry .now)) (stored s (entries .exit .now) (payloads .exit .now) (gaps .exit .now) (remembered .exit .now)) (output (out .entry .now) at) (output (out .exit .now) r) ⌝ }
+    ensures { λ r. ⌜ Answered (readingCall call) (before entries payloads gaps remembered s) (after entries payloads gaps remembered s) (output (out .entry .now) at) (output (out .exit .now) r) ⌝ }
 {
     match call {
         ReadingCall::TimeoutReceive(now) => {

@@ -12,12 +12,18 @@ within low high n = leb low n && leb n high
 abbrev pub longest : ℕ
 longest = 60000000000
 
+abbrev pub depthValid : ℕ → Bool
+depthValid depth = within 1 1024 depth
+
+abbrev pub gapsValid : ℕ → Bool
+gapsValid gaps = within 999 4096 gaps
+
 -- "clock rate outside 1 to 1,000,000; D outside 1 to 1,024; G outside 999 to 4,096; a duration over 60,000,000,000; max attempts outside 1 to 255"
 unfoldable pub settingsValid : Settings → Bool
 settingsValid s =
     within 1 1000000 (s .«clock_rate»)
-    && within 1 1024 (s .«max_entries»)
-    && within 999 4096 (s .«max_gaps»)
+    && depthValid (s .«max_entries»)
+    && gapsValid (s .«max_gaps»)
     && leb (s .delay) longest
     && leb (s .«initial_nack_delay») longest
     && leb (s .«default_nack_resend_delay») longest

@@ -3,7 +3,7 @@
 ghost use mathlib.Core.Path.{_≡_};
 ghost use mathlib.Core.List.{[]};
 ghost use Rattle.model.specs.Calls as Calls;
-ghost use Rattle.model.specs.Contract.{storage};
+ghost use Rattle.model.specs.Contract.{lent, left};
 ghost use Rattle.ffi_words.specs.Told as Told;
 ghost use Rattle.ffi.specs.Exported as Exported;
 ghost use Rattle.ffi.specs.Exported.{Follows, Gives, alone, openedWords};
@@ -35,7 +35,7 @@ pub extern "C" fn bizhgemu_open(
     gaps: &mut [u64],
     remembered: &mut [u64],
 ) -> Opened
-    ensures { λ r. ⌜ openedWords config (storage (entries .entry .now) (payloads .entry .now) (gaps .entry .now) (remembered .entry .now)) ≡ record { value = r; storage = storage (entries .exit .now) (payloads .exit .now) (gaps .exit .now) (remembered .exit .now); output = [] } ⌝ }
+    ensures { λ r. ⌜ openedWords config (lent entries payloads gaps remembered) ≡ record { value = r; storage = left entries payloads gaps remembered; output = [] } ⌝ }
 {
     if !ffi_words::config_readable(config) {
         return answers::open_refused(refusals::SETTINGS);
@@ -61,7 +61,7 @@ pub extern "C" fn bizhgemu_push(
     now: u64,
     datagram: &[u8],
 ) -> Pushed
-    ensures { λ r. ⌜ Gives Told.pushed (Calls.media now (datagram .entry .now)) session (storage (entries .entry .now) (payloads .entry .now) (gaps .entry .now) (remembered .entry .now)) r (storage (entries .exit .now) (payloads .exit .now) (gaps .exit .now) (remembered .exit .now)) [] ⌝ }
+    ensures { λ r. ⌜ Gives Told.pushed (Calls.media now (datagram .entry .now)) session (lent entries payloads gaps remembered) r (left entries payloads gaps remembered) [] ⌝ }
 {
     if !ffi_words::readable(session) {
         return answers::push_refused(refusals::SESSION, session);
@@ -83,7 +83,7 @@ pub extern "C" fn bizhgemu_push_rtx(
     now: u64,
     datagram: &[u8],
 ) -> Pushed
-    ensures { λ r. ⌜ Gives Told.pushed (Calls.repair now (datagram .entry .now)) session (storage (entries .entry .now) (payloads .entry .now) (gaps .entry .now) (remembered .entry .now)) r (storage (entries .exit .now) (payloads .exit .now) (gaps .exit .now) (remembered .exit .now)) [] ⌝ }
+    ensures { λ r. ⌜ Gives Told.pushed (Calls.repair now (datagram .entry .now)) session (lent entries payloads gaps remembered) r (left entries payloads gaps remembered) [] ⌝ }
 {
     if !ffi_words::readable(session) {
         return answers::push_refused(refusals::SESSION, session);
@@ -105,7 +105,7 @@ pub extern "C" fn bizhgemu_poll(
     now: u64,
     out: &mut [u8],
 ) -> Polled
-    ensures { λ r. ⌜ Gives Told.polled (Calls.poll now (out .entry .now)) session (storage (entries .entry .now) (payloads .entry .now) (gaps .entry .now) (remembered .entry .now)) r (storage (entries .exit .now) (payloads .exit .now) (gaps .exit .now) (remembered .exit .now)) (out .exit .now) ⌝ }
+    ensures { λ r. ⌜ Gives Told.polled (Calls.poll now (out .entry .now)) session (lent entries payloads gaps remembered) r (left entries payloads gaps remembered) (out .exit .now) ⌝ }
 {
     if !ffi_words::readable(session) {
         return answers::poll_refused(refusals::SESSION, session);
@@ -127,7 +127,7 @@ pub extern "C" fn bizhgemu_poll_nack(
     now: u64,
     out: &mut [u16],
 ) -> PolledNack
-    ensures { λ r. ⌜ Gives Told.polledNack (Calls.pollNack now (out .entry .now)) session (storage (entries .entry .now) (payloads .entry .now) (gaps .entry .now) (remembered .entry .now)) r (storage (entries .exit .now) (payloads .exit .now) (gaps .exit .now) (remembered .exit .now)) (out .exit .now) ⌝ }
+    ensures { λ r. ⌜ Gives Told.polledNack (Calls.pollNack now (out .entry .now)) session (lent entries payloads gaps remembered) r (left entries payloads gaps remembered) (out .exit .now) ⌝ }
 {
     if !ffi_words::readable(session) {
         return answers::nack_refused(refusals::SESSION, session);
@@ -148,7 +148,7 @@ pub extern "C" fn bizhgemu_timeout_receive(
     remembered: &mut [u64],
     now: u64,
 ) -> Timeout
-    ensures { λ r. ⌜ Gives (alone Told.timeoutTold) (Calls.timeoutReceive now) session (storage (entries .entry .now) (payloads .entry .now) (gaps .entry .now) (remembered .entry .now)) r (storage (entries .exit .now) (payloads .exit .now) (gaps .exit .now) (remembered .exit .now)) [] ⌝ }
+    ensures { λ r. ⌜ Gives (alone Told.timeoutTold) (Calls.timeoutReceive now) session (lent entries payloads gaps remembered) r (left entries payloads gaps remembered) [] ⌝ }
 {
     if !ffi_words::readable(session) {
         return answers::timeout_refused(refusals::SESSION);
@@ -167,7 +167,7 @@ pub extern "C" fn bizhgemu_timeout_nack(
     remembered: &mut [u64],
     now: u64,
 ) -> Timeout
-    ensures { λ r. ⌜ Gives (alone Told.timeoutTold) (Calls.timeoutNack now) session (storage (entries .entry .now) (payloads .entry .now) (gaps .entry .now) (remembered .entry .now)) r (storage (entries .exit .now) (payloads .exit .now) (gaps .exit .now) (remembered .exit .now)) [] ⌝ }
+    ensures { λ r. ⌜ Gives (alone Told.timeoutTold) (Calls.timeoutNack now) session (lent entries payloads gaps remembered) r (left entries payloads gaps remembered) [] ⌝ }
 {
     if !ffi_words::readable(session) {
         return answers::timeout_refused(refusals::SESSION);
@@ -185,7 +185,7 @@ pub extern "C" fn bizhgemu_rtx_stats(
     gaps: &mut [u64],
     remembered: &mut [u64],
 ) -> RtxStats
-    ensures { λ r. ⌜ Gives (alone Told.statsTold) Calls.rtxStats session (storage (entries .entry .now) (payloads .entry .now) (gaps .entry .now) (remembered .entry .now)) r (storage (entries .exit .now) (payloads .exit .now) (gaps .exit .now) (remembered .exit .now)) [] ⌝ }
+    ensures { λ r. ⌜ Gives (alone Told.statsTold) Calls.rtxStats session (lent entries payloads gaps remembered) r (left entries payloads gaps remembered) [] ⌝ }
 {
     if !ffi_words::readable(session) {
         return answers::stats_refused(refusals::SESSION);
@@ -203,7 +203,7 @@ pub extern "C" fn bizhgemu_highest_sequence_number_received(
     gaps: &mut [u64],
     remembered: &mut [u64],
 ) -> Highest
-    ensures { λ r. ⌜ Gives (alone Told.highestTold) Calls.highestReceived session (storage (entries .entry .now) (payloads .entry .now) (gaps .entry .now) (remembered .entry .now)) r (storage (entries .exit .now) (payloads .exit .now) (gaps .exit .now) (remembered .exit .now)) [] ⌝ }
+    ensures { λ r. ⌜ Gives (alone Told.highestTold) Calls.highestReceived session (lent entries payloads gaps remembered) r (left entries payloads gaps remembered) [] ⌝ }
 {
     if !ffi_words::readable(session) {
         return answers::highest_refused(refusals::SESSION);

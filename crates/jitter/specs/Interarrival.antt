@@ -64,7 +64,7 @@ jitterGet j = nearestNanos (div binary64 (j .jitter) (j .«clock_rate»))
 unfoldable pub jitterWithin : Jitter → Bool
 jitterWithin j = le zero64 (j .jitter) && le (j .jitter) (j .«clock_rate»)
 
--- nor is "the jitter record's clock rate not the setting's"
+-- and so is "the jitter record's clock rate not the setting's"
 unfoldable pub jitterInRange : ℕ → Jitter → Bool
 unfolding jitterWithin
 jitterInRange rate j = eq (j .«clock_rate») (ofInt binary64 (pos rate)) && jitterWithin j

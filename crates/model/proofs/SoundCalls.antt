@@ -28,7 +28,7 @@ use Rattle.model.specs.Table.{refuseIf, configValid, sessionSound, sessi
 use Rattle.model.specs.Did.{accepted, did}
 use Rattle.model.proofs.Laid.{Fits, parse-write, lengths-write}
 use Rattle.model.proofs.Lists.{not-not, Each, none, each-imp, empty}
-use Rattle.model.specs.Working.{NeverLocksUp}
+use Rattle.model.specs.StaysSound.{StaysSound}
 use Rattle.model.proofs.Sound.{Returned, Sound}
 use Rattle.model.proofs.SoundTest.{sound-of, sound-to, fits-to, rate-of}
 use Rattle.model.proofs.SoundQueue.{not-refused}
@@ -132,9 +132,9 @@ pub did-taken : (k : Call) (m : Stored) → refusal k m ≡ 0 → did k m .store
 unfolding did accepted
 did-taken k m e = rw (eq-eqb (refusal k m) 0 e)
 
-pub never-locks-up : NeverLocksUp
+pub stays-sound : StaysSound
 unfolding openingRefusal
-never-locks-up =
+stays-sound =
     record {
       at-opening = λ c t e. written (newState c) (new-sound c (not-not (configValid c) (not-refused (not (configValid c)) SETTINGS (lit< tt) (orElse-none _ _ e .0))));
       at-call = λ k m e. subst (λ (x : Stored). sessionRefusal x ≡ 0) (sym (did-taken k m e)) (written (taken k (parse m)) (left-sound k m e));

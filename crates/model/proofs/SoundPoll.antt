@@ -14,8 +14,8 @@ use Rattle.config.specs.declared.Settings.{Settings}
 use Rattle.config.specs.declared.RtpInboundQueueMode.{RtpInboundQueueMode}
 use Rattle.config.specs.declared.RtpInboundQueueMode.the-variants.{Passthrough, SortedQueue}
 use Rattle.model.specs.Records.{Entry, Gap, Remembered, State, returnedOf}
-use Rattle.model.specs.Rules.{MAX-LOST-NACKED, below, gapsBelow, gapsFrom, due, nacked, nackedIfDue, tried, latest, remember, rememberedAfter}
-use Rattle.model.specs.Poll.{timingsOf, countLost, lose, givenUp, notGivenUpIn, drained, ready, handsOut, goingOut, lostBelow, lostUnder, leftFrom, handOut, afterPoll, nackAll, afterPollNack}
+use Rattle.model.specs.Rules.{MAX-LOST-NACKED, below, gapsBelow, gapsFrom, due, nacked, nackedIfDue, tried, latest, remember, rememberedAfter, givenUp, notGivenUpIn, lostBelow, leftFrom}
+use Rattle.model.specs.Poll.{timingsOf, countLost, lose, drained, ready, handsOut, goingOut, lostUnder, handOut, afterPoll, nackAll, afterPollNack}
 use Rattle.model.specs.Table.{lostWith, pollRefusal, nacksRefusal, pollNackRefusal}
 use Rattle.model.proofs.Lists.{by-cases, Each, none, each-first, each-imp, each-append, each-drop, each-keep, each-trailing, each-map, Rising, rising-keep, rising-trailing, length-keep, length-trailing}
 use Rattle.model.proofs.Sound.{Ahead, GapIn, Apart, RememberedIn, Sound}

@@ -1,4 +1,4 @@
--- The eight calls of 01, what each answers and what it leaves. The opening is in Did.
+-- The eight calls at the head of 01, what each answers and what it leaves. The opening is in Did.
 use mathlib.Core.Bool.{Bool, cond}
 use mathlib.Core.List.{List, [], _∷_}
 use Prim.Native.Nat.{ℕ, zero, suc, _%_, _^_}
@@ -16,7 +16,7 @@ use Rattle.model.specs.Rules.{Place, waits}
 use Rattle.model.specs.Push.{mediaEntry, mediaPlace, afterMedia, Fate, repairEntry, repairFate, afterRepair}
 use Rattle.model.specs.Poll.{goingOut, afterPoll, dueGaps, nackNumbers, afterPollNack, receiveTimeout, timingsOf, nackTimeout, repairFigures}
 
--- A call with its own arguments; `now` is the first. The last argument of `poll` and `pollNack` is the lent output.
+-- A call with its own arguments: `now`, then the datagram, or the lent output.
 pub data Call : Type 0 where
   media repair : ℕ → List ℕ → Call
   poll pollNack : ℕ → List ℕ → Call
@@ -112,7 +112,7 @@ outputOf (timeoutNack now) = []
 outputOf rtxStats = []
 outputOf highestReceived = []
 
--- "Output after the payload or the last NACK number keeps its bytes."
+-- "Hand-out": "Output after the payload or the last NACK number keeps its bytes."
 unfoldable pub outputAfter : Call → State → List ℕ
 outputAfter (media now d) s = []
 outputAfter (repair now d) s = []

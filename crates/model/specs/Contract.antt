@@ -1,7 +1,9 @@
--- The equations that are the contracts of the opening and of the eight calls, and what the theorem over every list of calls takes them for.
+-- The equations that are the contracts of the opening and of the eight calls; `Made` (crate `book`) takes the same ones.
 use mathlib.Core.Path.{_≡_}
 use mathlib.Core.List.{List}
 use Prim.Native.Nat.{ℕ}
+use denote.Ref.{RefT}
+use denote.Triple.Both.{Both}
 use Rattle.model.specs.declared.Config.{Config}
 use Rattle.model.specs.declared.Session.{Session}
 use Rattle.model.specs.Storage.{Storage, Stored}
@@ -14,6 +16,25 @@ storage entries payloads gaps remembered = record { entries = entries; payloads 
 
 abbrev pub stored : Session → List ℕ → List ℕ → List ℕ → List ℕ → Stored
 stored s entries payloads gaps remembered = record { session = s; storage = storage entries payloads gaps remembered }
+
+-- a slice that is lent to a function: on entry and at exit
+abbrev pub Lent : Type 0
+Lent = Both (RefT (List ℕ)) (RefT (List ℕ))
+
+module _ (entries payloads gaps remembered : Lent) where
+  -- the lent slices as they come, and as they are left
+  abbrev pub lent : Storage
+  lent = storage (entries .entry .now) (payloads .entry .now) (gaps .entry .now) (remembered .entry .now)
+
+  abbrev pub left : Storage
+  left = storage (entries .exit .now) (payloads .exit .now) (gaps .exit .now) (remembered .exit .now)
+
+  -- a session beside them
+  abbrev pub before : Session → Stored
+  before s = record { session = s; storage = lent }
+
+  abbrev pub after : Session → Stored
+  after s = record { session = s; storage = left }
 
 -- The opening on `before` gave this answer and left `after`.
 abbrev pub Opens : Config → Storage → Opening → Storage → Type 0

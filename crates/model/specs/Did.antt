@@ -17,7 +17,7 @@ pub record Done : Type 0 where
   -- the lent output
   pub output : List ℕ
 
--- "Each refusal returns its number only; session, clock and every lent buffer are unchanged."
+-- "Where a call is turned back": "Each refusal returns its number only; session, clock and every lent buffer are unchanged."
 unfoldable pub turnedBack : ℕ → Call → Stored → Done
 turnedBack number c m = record { answer = Calls.refused number; stored = m; output = outputOf c }
 

@@ -10,5 +10,5 @@ pub mod Calls
 pub mod Table
 pub mod Did
 pub mod Contract
-pub mod Working
+pub mod StaysSound
 pub mod Flipped

@@ -22,9 +22,9 @@ use Rattle.model.specs.declared.LastReceived.{LastReceived}
 use Rattle.model.specs.declared.LastReceived.the-variants as LastReceived
 use Rattle.model.specs.declared.Counters.{Counters}
 use Rattle.model.specs.declared.Queue.{Queue}
-use Rattle.model.specs.Lists.{keep, leading, trailing}
+use Rattle.model.specs.Lists.{keep}
 use Rattle.model.specs.Records.{Entry, Gap, State, withClock, withReturned, withCounters, withLoss}
-use Rattle.model.specs.Rules.{gapsBelow, gapsFrom, timingsIn, dueAt, due, nackDue, truncated, tried, rememberedAfter}
+use Rattle.model.specs.Rules.{timingsIn, dueAt, due, nackDue, truncated, rememberedAfter, givenUp, notGivenUp, lostBelow, leftFrom}
 
 unfoldable pub countLost : ℕ → Counters → Counters
 countLost n c = record { dropped = c .dropped; received = c .received; bytes = c .bytes; lost = c .lost + n }
@@ -32,23 +32,6 @@ countLost n c = record { dropped = c .dropped; received = c .received; bytes = c
 -- n numbers became lost
 unfoldable pub lose : ℕ → Queue → Queue
 lose n q = withLoss (withCounters q (countLost n (q .counters))) (recordLost (q .loss) n)
-
--- ---- numbers given up
-
--- "In `Passthrough`, the leading gaps NACKed at least max times become lost, first thing in every `poll_nack` and `poll`"
-unfoldable pub givenUpIn : RtpInboundQueueMode → Settings → List Gap → List Gap
-givenUpIn Passthrough set l = leading (tried (set .«max_nack_attempts»)) l
-givenUpIn SortedQueue set l = []
-
-unfoldable pub notGivenUpIn : RtpInboundQueueMode → Settings → List Gap → List Gap
-notGivenUpIn Passthrough set l = trailing (tried (set .«max_nack_attempts»)) l
-notGivenUpIn SortedQueue set l = l
-
-abbrev pub givenUp : Settings → List Gap → List Gap
-givenUp set l = givenUpIn (set .mode) set l
-
-abbrev pub notGivenUp : Settings → List Gap → List Gap
-notGivenUp set l = notGivenUpIn (set .mode) set l
 
 -- the clock, then `drain_lost`: what it makes of the queue's record, by the gaps, and of the whole
 abbrev pub drainedQueue : ℕ → Queue → List Gap → Queue
@@ -71,14 +54,14 @@ unfoldable pub reaches : ℕ → Opt → Bool
 reaches timestamp None = false
 reaches timestamp (Some limit) = leb timestamp limit
 
-unfoldable pub readyIn : RtpInboundQueueMode → Settings → LastReceived → ℕ → ℕ → Bool
+unfoldable pub readyIn : RtpInboundQueueMode → Settings → LastReceived → (now timestamp : ℕ) → Bool
 readyIn Passthrough set last now timestamp = true
 readyIn SortedQueue set LastReceived.None now timestamp = false
 readyIn SortedQueue set (LastReceived.Some r) now timestamp =
     reaches timestamp (maxTimestamp (r .instant) (r .timestamp .0) (set .«clock_rate») (targetDelay set) now)
 
 -- whether an entry of the timestamp goes out where it is the front one
-abbrev pub ready : Queue → ℕ → ℕ → Bool
+abbrev pub ready : Queue → (now timestamp : ℕ) → Bool
 ready q now timestamp = readyIn (q .config .settings .mode) (q .config .settings) (q .last) now timestamp
 
 -- whether the front entry goes out
@@ -90,22 +73,13 @@ handsOut now q (e ∷ es) = ready q now (e .timestamp)
 unfoldable pub goingOut : ℕ → State → List Entry → List Entry
 goingOut now s es = cond (handsOut now (s .queue) es) (take 1 es) []
 
--- "Gaps below the one handed out become lost" in sorted mode
-unfoldable pub lostBelow : RtpInboundQueueMode → ℕ → List Gap → List Gap
-lostBelow Passthrough n l = []
-lostBelow SortedQueue n l = gapsBelow n l
-
-unfoldable pub leftFrom : RtpInboundQueueMode → ℕ → List Gap → List Gap
-leftFrom Passthrough n l = l
-leftFrom SortedQueue n l = gapsFrom n l
-
 -- those below the entry that goes out, if one does
 unfoldable pub lostUnder : RtpInboundQueueMode → List Entry → List Gap → List Gap
 lostUnder mode [] l = []
 lostUnder mode (e ∷ es) l = lostBelow mode (e .number) l
 
 -- the number goes out, and so many below it are lost
-abbrev pub queueHandedOut : ℕ → ℕ → Queue → Queue
+abbrev pub queueHandedOut : (number lost : ℕ) → Queue → Queue
 queueHandedOut n lost q = withReturned (lose lost q) n
 
 unfoldable pub handOut : List Entry → State → State
@@ -154,7 +128,7 @@ receiveTimeout SortedQueue set (LastReceived.Some r) [] now = None
 receiveTimeout SortedQueue set (LastReceived.Some r) (e ∷ es) now =
     Some (timeoutReceive (r .instant) (r .timestamp .0) (e .timestamp) (set .«clock_rate») (targetDelay set) now)
 
--- "the next time": the least that is left until a gap is due
+-- 001, "the next time": the least that is left until a gap is due
 unfoldable pub nackTimeout : NackTimings → ℕ → List Gap → Opt
 nackTimeout t now [] = None
 nackTimeout t now (g ∷ gs) = optMin (Some (dueAt t g - now)) (nackTimeout t now gs)

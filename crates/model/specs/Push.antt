@@ -1,4 +1,5 @@
--- 000's `push` and `push_rtx`: what a media packet and a repair make of a session. The bytes are a datagram that was not refused.
+-- 000's `push` and `push_rtx`; 01, "Entry", "Gap", "Repair state", "Jitter" and "Loss": what a media packet and a repair make of a session.
+-- The bytes are a datagram that was not refused.
 use mathlib.Core.Bool.{Bool, false, cond}
 use mathlib.Core.List.{List, [], _∷_}
 use Prim.Native.Nat.{ℕ, _+_}
@@ -47,7 +48,7 @@ unfoldable pub extendedTimestamp : Queue → ℕ → ℕ
 extendedTimestamp q got = extended 32 (lastTimestampOf (q .last)) got
 
 -- the entry that a packet becomes, by its own timestamp and number
-unfoldable pub extendedEntry : Queue → Opt → ℕ → ℕ → Bool → List ℕ → Entry
+unfoldable pub extendedEntry : Queue → Opt → (timestamp number : ℕ) → Bool → List ℕ → Entry
 extendedEntry q arrival ts n marker payload =
     record { arrival = arrival; timestamp = extendedTimestamp q ts; number = extendedNumber q n; marker = marker; payload = payload }
 
@@ -75,8 +76,8 @@ jitterAfter now ts (LastReceived.Some r) j = jitterUpdated j now ts (r .instant)
 unfoldable pub heard : ℕ → ℕ → Queue → Queue
 heard now ts q = withClock (withJitter q (jitterAfter now ts (q .last) (q .jitter))) now
 
--- "forward progress only"
-unfoldable pub lastAfter : ℕ → ℕ → ℕ → Place → LastReceived → LastReceived
+-- 000, "forward progress only"
+unfoldable pub lastAfter : (now timestamp number : ℕ) → Place → LastReceived → LastReceived
 lastAfter now ts n first l = LastReceived.Some (record { instant = now; timestamp = record { 0 = ts }; number = record { 0 = n } })
 lastAfter now ts n (near h) l = LastReceived.Some (record { instant = now; timestamp = record { 0 = ts }; number = record { 0 = n } })
 lastAfter now ts n (far h) l = LastReceived.Some (record { instant = now; timestamp = record { 0 = ts }; number = record { 0 = n } })
@@ -89,15 +90,15 @@ countDropped c = record { dropped = c .dropped + 1; received = c .received; byte
 unfoldable pub countReceived : ℕ → Counters → Counters
 countReceived size c = record { dropped = c .dropped; received = c .received + 1; bytes = c .bytes + size; lost = c .lost }
 
--- dropped: it moves no number
-abbrev pub queueDropped : ℕ → ℕ → Queue → Queue
+-- what a dropped packet makes of the queue's own record, and of the whole: it moves no number
+abbrev pub queueDropped : (now timestamp : ℕ) → Queue → Queue
 queueDropped now ts q = withCounters (heard now ts q) (countDropped (q .counters))
 
 unfoldable pub afterDropped : ℕ → ℕ → State → State
 afterDropped now ts s = record { queue = queueDropped now ts (s .queue); entries = s .entries; gaps = s .gaps; remembered = s .remembered }
 
--- queued, before the depth is looked at
-abbrev pub queueQueued : ℕ → ℕ → ℕ → ℕ → Place → Queue → Queue
+-- the same of a packet that is queued, before the depth is looked at
+abbrev pub queueQueued : (now timestamp number size : ℕ) → Place → Queue → Queue
 queueQueued now ts n size p q =
     let last = lastAfter now ts n p (q .last) in
     withLoss (withCounters (withLast (heard now ts q) last) (countReceived size (q .counters))) (recordReceived (q .loss))
@@ -112,7 +113,7 @@ afterQueued now e p s =
     }
 
 -- "the front one is pushed out: it counts as dropped, becomes the last returned, and missing numbers below it go uncounted"
-abbrev pub queuePushedOut : ℕ → Queue → Queue
+abbrev pub queuePushedOut : (number : ℕ) → Queue → Queue
 queuePushedOut n q = withReturned (withCounters q (countDropped (q .counters))) n
 
 unfoldable pub frontOut : List Entry → State → State
@@ -160,14 +161,14 @@ abbrev pub sampled : ℕ → Opt → RtxState → RtxState
 sampled now instant r =
     record { rtt = sampledAt now instant (r .rtt); «received_in_time» = r .«received_in_time»; «received_too_late» = r .«received_too_late»; «received_redundant» = r .«received_redundant»; «bytes_received» = r .«bytes_received» }
 
--- `nacked` is the instant of the number's NACK, if there was just one
+-- what a repair makes of the queue's own record; `nacked` is the instant of the number's NACK, if there was just one
 abbrev pub queueTooLate : ℕ → Opt → Queue → Queue
 queueTooLate now nacked q = withRtx (withClock q now) (sampled now nacked (recordTooLate (q .rtx)))
 
 abbrev pub queueRedundant : ℕ → Queue → Queue
 queueRedundant now q = withRtx (withClock q now) (recordRedundant (q .rtx))
 
-abbrev pub queueRecovered : ℕ → Opt → ℕ → Queue → Queue
+abbrev pub queueRecovered : (now : ℕ) → Opt → (size : ℕ) → Queue → Queue
 queueRecovered now nacked size q = withLoss (withRtx (withClock q now) (sampled now nacked (recordInTime (q .rtx) size))) (recordLost (q .loss) 1)
 
 unfoldable pub afterFate : ℕ → Entry → Fate → State → State

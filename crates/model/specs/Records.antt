@@ -27,7 +27,7 @@ pub record Entry : Type 0 where
   pub marker : Bool
   pub payload : List ℕ
 
--- "number, instant detected, last NACK instant and NACK count"; where the count is 0 nothing looks at the instant
+-- "number, instant detected, last NACK instant and NACK count"; where the count is 0 only check 16 looks at the instant
 pub record Gap : Type 0 where
   pub number : ℕ
   pub detected : ℕ

@@ -10,10 +10,13 @@ use Rattle.rtp.specs.declared.opt.Opt.the-variants.{None, Some}
 use Rattle.rtx_state.specs.declared.OptRtt.{OptRtt}
 use Rattle.rtx_state.specs.declared.OptRtt.the-variants as OptRtt
 use Rattle.rtx_state.specs.RoundTrip.{sampledRtt}
+use Rattle.config.specs.declared.RtpInboundQueueMode.{RtpInboundQueueMode}
+use Rattle.config.specs.declared.RtpInboundQueueMode.the-variants.{Passthrough, SortedQueue}
+use Rattle.config.specs.declared.Settings.{Settings}
 use Rattle.config.specs.declared.NackTimings.{NackTimings}
 use Rattle.config.specs.Timings.{nackTimings}
 use Rattle.model.specs.declared.Config.{Config}
-use Rattle.model.specs.Lists.{following, keep, some?}
+use Rattle.model.specs.Lists.{following, keep, leading, trailing, some?}
 use Rattle.model.specs.Records.{Gap, Remembered}
 
 -- ---- numbers
@@ -57,7 +60,7 @@ gapsFrom n l = keep (λ (g : Gap). not (below n g)) l
 pub data Place : Type 0 where
   -- no media packet came before it
   first : Place
-  -- above the highest number so far, by at most 1,000 or by more
+  -- above the highest number so far, which it carries: by at most 1,000, or by more
   near far : ℕ → Place
   -- an open gap
   fills : Place
@@ -174,8 +177,34 @@ latest l = drop (length l - MAX-LOST-NACKED) l
 unfoldable pub remember : Gap → Remembered
 remember g = record { number = g .number; nackedAt = g .nackedAt }
 
--- the gaps `lost` were given up; a session without RTX remembers none
+-- the remembered numbers once these gaps are lost; without RTX none is added
 unfoldable pub rememberedAfter : Bool → List Gap → List Remembered → List Remembered
 unfolding latest
 rememberedAfter false lost l = l
 rememberedAfter true lost l = latest (l ++ map remember (keep once lost))
+
+-- ---- numbers lost
+
+-- "In `Passthrough`, the leading gaps NACKed at least max times become lost, first thing in every `poll_nack` and `poll`"
+unfoldable pub givenUpIn : RtpInboundQueueMode → Settings → List Gap → List Gap
+givenUpIn Passthrough set l = leading (tried (set .«max_nack_attempts»)) l
+givenUpIn SortedQueue set l = []
+
+unfoldable pub notGivenUpIn : RtpInboundQueueMode → Settings → List Gap → List Gap
+notGivenUpIn Passthrough set l = trailing (tried (set .«max_nack_attempts»)) l
+notGivenUpIn SortedQueue set l = l
+
+abbrev pub givenUp : Settings → List Gap → List Gap
+givenUp set l = givenUpIn (set .mode) set l
+
+abbrev pub notGivenUp : Settings → List Gap → List Gap
+notGivenUp set l = notGivenUpIn (set .mode) set l
+
+-- "Gaps below the one handed out become lost" in sorted mode
+unfoldable pub lostBelow : RtpInboundQueueMode → ℕ → List Gap → List Gap
+lostBelow Passthrough n l = []
+lostBelow SortedQueue n l = gapsBelow n l
+
+unfoldable pub leftFrom : RtpInboundQueueMode → ℕ → List Gap → List Gap
+leftFrom Passthrough n l = l
+leftFrom SortedQueue n l = gapsFrom n l

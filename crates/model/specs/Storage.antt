@@ -9,6 +9,7 @@ use Rattle.words.specs.Words.{padded}
 use Rattle.words.specs.Blocks.{blocks, flat}
 use Rattle.rtp.specs.declared.opt.Opt.{Opt}
 use Rattle.rtp.specs.declared.opt.Opt.the-variants.{None, Some}
+use Rattle.rtp_packet.specs.Datagram.{LARGEST-PAYLOAD}
 use Rattle.config.specs.declared.Settings.{Settings}
 use Rattle.model.specs.declared.Session.{Session}
 use Rattle.model.specs.Records.{Entry, Gap, Remembered, State}
@@ -32,7 +33,7 @@ abbrev pub ENTRY-WORDS : ℕ
 ENTRY-WORDS = 4
 
 abbrev pub PAYLOAD-BYTES : ℕ
-PAYLOAD-BYTES = 320
+PAYLOAD-BYTES = LARGEST-PAYLOAD
 
 abbrev pub GAP-WORDS : ℕ
 GAP-WORDS = 4
@@ -44,12 +45,25 @@ REMEMBERED-WORDS = 2
 abbrev pub entryPlaces : Settings → ℕ
 entryPlaces set = 2 * set .«max_entries»
 
+-- the lengths of the slices, by D and G
+abbrev pub entriesLength : ℕ → ℕ
+entriesLength depth = ENTRY-WORDS * (2 * depth)
+
+abbrev pub payloadsLength : ℕ → ℕ
+payloadsLength depth = PAYLOAD-BYTES * (2 * depth)
+
+abbrev pub gapsLength : ℕ → ℕ
+gapsLength gaps = GAP-WORDS * gaps
+
+abbrev pub rememberedLength : ℕ
+rememberedLength = REMEMBERED-WORDS * MAX-LOST-NACKED
+
 unfoldable pub lengthsFit : Settings → Storage → Bool
 lengthsFit set t =
-    eqb (length (t .entries)) (ENTRY-WORDS * entryPlaces set)
-    && (eqb (length (t .payloads)) (PAYLOAD-BYTES * entryPlaces set)
-    && (eqb (length (t .gaps)) (GAP-WORDS * set .«max_gaps»)
-    && eqb (length (t .remembered)) (REMEMBERED-WORDS * MAX-LOST-NACKED)))
+    eqb (length (t .entries)) (entriesLength (set .«max_entries»))
+    && (eqb (length (t .payloads)) (payloadsLength (set .«max_entries»))
+    && (eqb (length (t .gaps)) (gapsLength (set .«max_gaps»))
+    && eqb (length (t .remembered)) rememberedLength))
 
 -- ---- a record as words
 

@@ -19,9 +19,9 @@ use Rattle.model.specs.declared.Counters.{Counters}
 use Rattle.model.specs.declared.Queue.{Queue}
 use Rattle.model.specs.Lists.{some?}
 use Rattle.model.specs.Records.{Entry, Gap, State}
-use Rattle.model.specs.Rules.{Place, first, near, far, fills, other, waits, full}
+use Rattle.model.specs.Rules.{Place, first, near, far, fills, other, waits, full, givenUp}
 use Rattle.model.specs.Push.{mediaEntry, mediaPlace, Fate, tooLate, recovered, redundant, repairEntry, repairFate}
-use Rattle.model.specs.Poll.{givenUp, drained, goingOut, lostUnder, dueGaps}
+use Rattle.model.specs.Poll.{drained, goingOut, lostUnder, dueGaps}
 use Rattle.model.specs.Valid.{sound}
 use Rattle.model.specs.Storage.{Storage, Stored, lengthsFit, entryPlaces, parse}
 use Rattle.model.specs.Calls.{Call, media, repair, poll, pollNack, timeoutReceive, timeoutNack, rtxStats, highestReceived}
@@ -44,7 +44,7 @@ unfoldable pub sessionRefusal : Stored → ℕ
 sessionRefusal m = refuseIf (not (sessionSound m)) SESSION
 
 -- 15: an output of so many places, where so many are needed
-unfoldable pub outputRefusal : ℕ → ℕ → ℕ
+unfoldable pub outputRefusal : (needed places : ℕ) → ℕ
 outputRefusal needed places = refuseIf (ltb places needed) OUTPUT
 
 -- 8
@@ -73,7 +73,7 @@ nackCountRefusal due = refuseIf (some? full due) COUNT
 
 -- ---- a media packet
 
--- one entry more would be over the depth
+-- "a push that leaves more than D": it finds D or more (`at-depth` of proofs/SoundPush.antt)
 abbrev pub atDepth : Settings → ℕ → Bool
 atDepth set entries = leb (set .«max_entries») entries
 
@@ -82,7 +82,7 @@ unfoldable pub mediaValues : Counters → ℕ → Bool → Bool → List ℕ
 mediaValues c size waits pushesOut = cond waits ((c .received + 1) ∷ (c .bytes + size) ∷ cond pushesOut ((c .dropped + 1) ∷ []) []) ((c .dropped + 1) ∷ [])
 
 -- 12: "s from 2 to 1,000, packet would be queued, open gaps + s − 1 over G", with so many gaps open
-unfoldable pub tooManyGaps : Settings → ℕ → ℕ → Place → Bool
+unfoldable pub tooManyGaps : Settings → (gaps number : ℕ) → Place → Bool
 tooManyGaps set gaps n first = false
 tooManyGaps set gaps n (near h) = ltb (set .«max_gaps») (gaps + ((n - h) - 1)) && leb 2 (n - h)
 tooManyGaps set gaps n (far h) = false
@@ -90,7 +90,7 @@ tooManyGaps set gaps n fills = false
 tooManyGaps set gaps n other = false
 
 -- 14, then 12, of a packet by its timestamp, number, size and place, where so many entries and gaps are held
-unfoldable pub packetRefusal : Queue → ℕ → ℕ → ℕ → ℕ → ℕ → Place → ℕ
+unfoldable pub packetRefusal : Queue → (entries gaps timestamp number size : ℕ) → Place → ℕ
 packetRefusal q entries gaps ts n size p =
     let set = q .config .settings in
     orElse (countRefusal (ts ∷ n ∷ mediaValues (q .counters) size (waits p) (atDepth set entries))) (refuseIf (tooManyGaps set gaps n p) GAPS-FULL)
@@ -126,7 +126,7 @@ noPlace places entries redundant = false
 noPlace places entries recovered = leb places entries
 
 -- 14, then 13, of a repair by its timestamp, number, size and fate, where so many entries are held
-unfoldable pub fateRefusal : Queue → ℕ → ℕ → ℕ → ℕ → Fate → ℕ
+unfoldable pub fateRefusal : Queue → (entries timestamp number size : ℕ) → Fate → ℕ
 fateRefusal q entries ts n size f =
     orElse (countRefusal (ts ∷ n ∷ fateValues (q .rtx) size f)) (refuseIf (noPlace (entryPlaces (q .config .settings)) entries f) ENTRIES-FULL)
 

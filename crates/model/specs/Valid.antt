@@ -55,7 +55,7 @@ gapsSound b gaps = ascends (gapNumbers gaps) && every? (gapSound b) gaps
 
 -- of an entry's fields and its payload's size; `missing` says that a gap has its number. The number is bounded by the highest, which
 -- `lastSound` keeps within 2^52 − 1.
-unfoldable pub fieldsSound : Bounds → Bool → ℕ → ℕ → Opt → ℕ → Bool
+unfoldable pub fieldsSound : Bounds → (missing : Bool) (number timestamp : ℕ) → Opt → (size : ℕ) → Bool
 fieldsSound b missing number timestamp arrival size =
     atMost (b .highest) number
     && (notPassed (b .passed) number

@@ -1,7 +1,7 @@
 // The records of the queue (000) as they go in and come back by value, beside the storage that the caller lends. No code: specs/
 // holds what the queue is, for the contracts and for the theorem over every list of calls alike.
 ghost use Rattle.model.specs.Flipped.{FlippedBit};
-ghost use Rattle.model.specs.Working.{NeverLocksUp};
+ghost use Rattle.model.specs.StaysSound.{StaysSound};
 use config::Senders;
 use config::Settings;
 use jitter::Jitter;
@@ -73,8 +73,8 @@ pub struct Bounds {
 }
 
 // What the opening or an accepted call leaves is never refused under 16 at the next call.
-pub fn never_locks_up()
-    ensures { λ r. ⌜ NeverLocksUp ⌝ }
+pub fn stays_sound()
+    ensures { λ r. ⌜ StaysSound ⌝ }
 {}
 
 // A media packet or repair that the session would have taken is refused where one bit of version, payload type or sender is turned over, and

@@ -15,6 +15,9 @@ use super::Gap;
 use config::NackTimings;
 use rtp::opt::Opt;
 
+// The largest NACK count, 2^32 - 1: the Rust's u32.
+const MAX_NACKS: u64 = 4294967295;
+
 fn due_at(g: Gap, t: NackTimings) -> u64
     requires { ⌜ instantsFit (gap g) ≡ true ⌝ }
     requires { ⌜ Small t ⌝ }
@@ -59,7 +62,7 @@ pub fn any_full(s: &[u64], first: usize, n: usize, now: u64, t: NackTimings) -> 
     while i < n {
         let g = super::read(s, i);
         if is_due(g, t, now) {
-            if 4294967295 <= g.nacks {
+            if MAX_NACKS <= g.nacks {
                 return true;
             }
             i += 1;

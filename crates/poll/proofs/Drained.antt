@@ -12,7 +12,8 @@ use Rattle.words.proofs.Ordered.{ascends-drop}
 use Rattle.config.specs.declared.Settings.{Settings}
 use Rattle.model.specs.declared.Session.{Session}
 use Rattle.model.specs.Records.{Gap, gapNumbers}
-use Rattle.model.specs.Poll.{countLost, lose, givenUp, notGivenUp, drained}
+use Rattle.model.specs.Rules.{givenUp, notGivenUp}
+use Rattle.model.specs.Poll.{countLost, lose, drained}
 use Rattle.model.specs.Storage.{Stored, GAP-WORDS, gapWords, gapsOf, parse, write}
 use Rattle.model.proofs.Laid.{length-entriesOf, length-gapsOf, length-rememberedOf, parse-write}
 use Rattle.model.proofs.SoundCalls.{payloads-fit}

@@ -12,8 +12,8 @@ use Rattle.config.specs.declared.RtpInboundQueueMode.{RtpInboundQueueMode}
 use Rattle.model.specs.declared.Queue.{Queue}
 use Rattle.model.specs.declared.Session.{Session}
 use Rattle.model.specs.Records.{gapNumbers, withReturned}
-use Rattle.model.specs.Rules.{rememberedAfter}
-use Rattle.model.specs.Poll.{lose, lostBelow, leftFrom, handOut}
+use Rattle.model.specs.Rules.{rememberedAfter, lostBelow, leftFrom}
+use Rattle.model.specs.Poll.{lose, handOut}
 use Rattle.model.specs.Storage.{PAYLOAD-BYTES, entryWords, payloadBytes, gapWords, rememberedWords, entriesOf, gapsOf, rememberedOf, parse, write}
 use Rattle.model.proofs.Laid.{length-entriesOf, length-gapsOf}
 use Rattle.entries.specs.declared.Entry as Row

@@ -10,10 +10,11 @@ use Rattle.config.specs.declared.Settings.{Settings}
 use Rattle.config.specs.declared.RtpInboundQueueMode.{RtpInboundQueueMode}
 use Rattle.config.specs.declared.RtpInboundQueueMode.the-variants.{Passthrough, SortedQueue}
 use Rattle.model.specs.Records.{Entry, Gap, State, gapNumbers}
-use Rattle.model.specs.Poll.{givenUp, givenUpIn, notGivenUpIn, drained, handsOut, goingOut, lostBelow, lostUnder}
+use Rattle.model.specs.Rules.{givenUp, givenUpIn, notGivenUpIn, lostBelow}
+use Rattle.model.specs.Poll.{drained, handsOut, goingOut, lostUnder}
 use Rattle.model.specs.Table.{lostWith}
-use Rattle.poll.specs.declared.Due.{Due}
-use Rattle.poll.specs.Steps.{dueFor}
+use Rattle.poll.specs.declared.Effect.{Effect}
+use Rattle.poll.specs.Steps.{effectFor}
 use Rattle.poll.proofs.Parted.{given-up-le, lost-le}
 use Rattle.poll.proofs.Fronts.{front-is}
 
@@ -36,22 +37,22 @@ module _ (now : ℕ) (s : State) where
   -- ---- what the code counts
 
   pub due-none : (given : ℕ) (b : Bool) → given ≡ length (givenUp set (s .gaps)) → b ≡ handsOut now (s .queue) (s .entries) → b ≡ false
-      → record { given = given; «goes_out» = false; lost = 0 } ≡ dueFor now s
-  unfolding dueFor lostUnder
+      → record { given = given; «goes_out» = false; lost = 0 } ≡ effectFor now s
+  unfolding effectFor lostUnder
   due-none given b eg e f = rw (eg, ← e, front-is now s (s .entries) b e, f)
 
   pub due-some : (given lost : ℕ) (b : Bool) (x : Entry) → given ≡ length (givenUp set (s .gaps)) → b ≡ handsOut now (s .queue) (s .entries) → b ≡ true → take 1 (s .entries) ≡ x ∷ [] → lost ≡ length (lostBelow (set .mode) (x .number) (s .gaps))
-      → record { given = given; «goes_out» = true; lost = lost } ≡ dueFor now s
-  unfolding dueFor lostUnder drained
+      → record { given = given; «goes_out» = true; lost = lost } ≡ effectFor now s
+  unfolding effectFor lostUnder drained
   due-some given lost b x eg e f t el = rw (eg, ← e, front-is now s (s .entries) b e, f, t, el, same-below set (set .mode) (x .number) (s .gaps))
 
   -- ---- 14
 
-  module _ (d : Due) (ed : d ≡ dueFor now s) where
+  module _ (d : Effect) (ed : d ≡ effectFor now s) where
     pub due-counts : d .given + d .lost ≡ length (lostWith now s (goingOut now s (s .entries)))
-    unfolding dueFor lostWith
+    unfolding effectFor lostWith
     due-counts = rw ed (sym (length-append (givenUp set (s .gaps)) _))
 
     pub due-few : ascends (gapNumbers (s .gaps)) ≡ true → d .given + d .lost ≤ length (s .gaps)
-    unfolding dueFor drained
+    unfolding effectFor drained
     due-few a = rw ed (both-le set (set .mode) (goingOut now s (s .entries)) (s .gaps) a)

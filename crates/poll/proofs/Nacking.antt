@@ -20,8 +20,8 @@ use Rattle.model.specs.declared.Queue.{Queue}
 use Rattle.model.specs.declared.Session.{Session}
 use Rattle.model.specs.Lists.{keep, some?, every?}
 use Rattle.model.specs.Records.{Gap}
-use Rattle.model.specs.Rules.{due, nackDue, truncated, full}
-use Rattle.model.specs.Poll.{lose, givenUp, notGivenUp, drained, timingsOf, dueGaps, nackNumbers, nackAll, afterPollNack}
+use Rattle.model.specs.Rules.{due, nackDue, truncated, full, givenUp, notGivenUp}
+use Rattle.model.specs.Poll.{lose, drained, timingsOf, dueGaps, nackNumbers, nackAll, afterPollNack}
 use Rattle.model.specs.Storage.{Stored, GAP-WORDS, gapWords, gapsOf, parse, write}
 use Rattle.model.specs.Calls.{Answer, pollNack, refused, taken, answered, outputOf, outputAfter, nackAnswer}
 use Rattle.model.specs.Table.{refuseIf, sessionSound, outputRefusal, clockRefusal, countRefusal, nackCountRefusal, nacksRefusal, pollNackRefusal, callRefusal}

@@ -13,8 +13,8 @@ use Rattle.model.specs.Lists.{leading}
 use Rattle.model.specs.declared.Queue.{Queue}
 use Rattle.model.specs.declared.Session.{Session}
 use Rattle.model.specs.Records.{Gap, gapNumbers, withClock}
-use Rattle.model.specs.Rules.{tried}
-use Rattle.model.specs.Poll.{lose, givenUp, givenUpIn, notGivenUp, notGivenUpIn, lostBelow, leftFrom}
+use Rattle.model.specs.Rules.{tried, givenUp, givenUpIn, notGivenUp, notGivenUpIn, lostBelow, leftFrom}
+use Rattle.model.specs.Poll.{lose}
 use Rattle.model.specs.Storage.{gapsOf}
 use Rattle.model.proofs.Laid.{length-gapsOf}
 use Rattle.packet_gaps.proofs.Model.{below-parts, leading-front}

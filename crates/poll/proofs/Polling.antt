@@ -16,7 +16,8 @@ use Rattle.rtp_packet.specs.Datagram.{LARGEST-PAYLOAD}
 use Rattle.config.specs.Valid.{settingsValid}
 use Rattle.model.specs.declared.Session.{Session}
 use Rattle.model.specs.Records.{Entry, gapNumbers}
-use Rattle.model.specs.Poll.{lose, givenUp, notGivenUp, drained, handsOut, goingOut, lostUnder, handOut, afterPoll}
+use Rattle.model.specs.Rules.{givenUp, notGivenUp}
+use Rattle.model.specs.Poll.{lose, drained, handsOut, goingOut, lostUnder, handOut, afterPoll}
 use Rattle.model.specs.Valid.{lastSound}
 use Rattle.model.specs.Storage.{Stored, ENTRY-WORDS, PAYLOAD-BYTES, GAP-WORDS, entryOf, entriesOf, gapsOf, gapWords, parse, write}
 use Rattle.model.specs.Calls.{Answer, poll, nothing, refused, taken, answered, outputOf, outputAfter, handed, packetOf, payloadOut}
@@ -27,8 +28,8 @@ use Rattle.packet_gaps.specs.Gaps.{GapsIn}
 use Rattle.model.specs.Contract.{stored, Does}
 use Rattle.storage.specs.Settled.{Settled}
 use Rattle.storage.proofs.Settled.{checked, holding, settled-of, settings-in, last-in}
-use Rattle.poll.specs.declared.Due.{Due}
-use Rattle.poll.specs.Steps.{Handing, Leaves, dueFor, drainedSession}
+use Rattle.poll.specs.declared.Effect.{Effect}
+use Rattle.poll.specs.Steps.{Handing, Leaves, effectFor, drainedSession}
 use Rattle.poll.proofs.Early.{earlyRefusal, is-sound, is-room, is-timely, early-refused, late-refused, goes-on}
 use Rattle.poll.proofs.Holding.{leaves-write, lost-in}
 use Rattle.poll.proofs.Drained.{gaps-left, drained-lengths, drained-written, drained-parsed, drained-handing}
@@ -41,18 +42,18 @@ firstOf m = entryOf (take ENTRY-WORDS (drop (ENTRY-WORDS * 0) (m .storage .entri
 
 -- ---- from `drain` to the answer
 
-module _ (now : ℕ) (m : Stored) (h : Settled m) (due : Due) (ed : due ≡ dueFor now (parse m)) where
+module _ (now : ℕ) (m : Stored) (h : Settled m) (due : Effect) (ed : due ≡ effectFor now (parse m)) where
   pub drains : GapsIn (m .storage .gaps) (m .session .gaps)
       × (due .given ≡ length (givenUp (m .session .queue .config .settings) (gapsOf (m .storage .gaps) (m .session .gaps)))
       × (m .session .queue .counters .lost + m .session .gaps < 2 ^ 64))
-  unfolding dueFor parse
+  unfolding effectFor parse
   drains =
       let k = holding m h in
-      (k .gaps-in, (ap (λ (d : Due). d .given) ed, lost-in m (k .checked)))
+      (k .gaps-in, (ap (λ (d : Effect). d .given) ed, lost-in m (k .checked)))
 
   eb : due .«goes_out» ≡ handsOut now (m .session .queue) (entriesOf (m .storage .entries) (m .storage .payloads) (m .session .entries))
-  unfolding dueFor parse
-  eb = ap (λ (d : Due). d .«goes_out») ed
+  unfolding effectFor parse
+  eb = ap (λ (d : Effect). d .«goes_out») ed
 
   module _ (out g : List ℕ) (s : Session)
       (es : s ≡ drainedSession now (m .session) (gapsOf (m .storage .gaps) (m .session .gaps)))
@@ -92,13 +93,13 @@ module _ (now : ℕ) (m : Stored) (h : Settled m) (due : Due) (ed : due ≡ dueF
 
       -- the gaps below it are those that were counted before `drain`
       pub is-lost : due .lost ≡ length (lostUnder (s .queue .config .settings .mode) (take 1 (entriesOf (m .storage .entries) (m .storage .payloads) (s .entries))) (gapsOf g (s .gaps)))
-      unfolding dueFor drainedSession drained lose parse
+      unfolding effectFor drainedSession drained lose parse
       is-lost =
           let set = m .session .queue .config .settings in
           let before = gapsOf (m .storage .gaps) (m .session .gaps) in
           let out-is : goingOut now (parse m) (parse m .entries) ≡ firstOf m ∷ [] = front-is now (parse m) (parse m .entries) (due .«goes_out») eb ∙ rw z first in
           let left : gapsOf g (length (notGivenUp set before)) ≡ notGivenUp set before = gaps-left (m .session) (m .storage .gaps) g (holding m h .gaps-in .room) eg in
-          ap (λ (d : Due). d .lost) ed ∙ rw (out-is, first-after, es, left)
+          ap (λ (d : Effect). d .lost) ed ∙ rw (out-is, first-after, es, left)
 
       handed-written : (m′ : Stored) → Leaves (handOut (firstOf m ∷ []) (drained now (parse m))) (after .storage) m′ → m′ ≡ write (handOut (firstOf m ∷ []) (drained now (parse m)))
       unfolding handOut drained lose parse
@@ -149,16 +150,16 @@ module _ (now : ℕ) (m : Stored) (out : List ℕ) where
           let k = checked m poll-sound in
           ((k .room .entries, k .room .gaps), (k .lists .gaps-ascend, (is-timely m LARGEST-PAYLOAD now out r e z, (settings-in m k, last-in m k))))
 
-      module _ (due : Due) (ed : due ≡ dueFor now (parse m)) where
+      module _ (due : Effect) (ed : due ≡ effectFor now (parse m)) where
         pub poll-fits : m .session .queue .counters .lost + (due .given + due .lost) < 2 ^ 64
         poll-fits =
             let k = checked m poll-sound in
             omega (arith, due-few now (parse m) due ed (k .lists .gaps-ascend), parse-gaps m, lost-in m k)
 
-        pub poll-taken : (m2 : Stored) → m2 ≡ write (parse m) → Settled m2 × ((due ≡ dueFor now (parse m2)) × (PAYLOAD-BYTES ≤ length out))
+        pub poll-taken : (m2 : Stored) → m2 ≡ write (parse m) → Settled m2 × ((due ≡ effectFor now (parse m2)) × (PAYLOAD-BYTES ≤ length out))
         poll-taken m2 w =
             let k = settled-of m m2 poll-sound w in
-            (k .0, (ed ∙ ap (dueFor now) (sym (k .1)), is-room m LARGEST-PAYLOAD now out r e z))
+            (k .0, (ed ∙ ap (effectFor now) (sym (k .1)), is-room m LARGEST-PAYLOAD now out r e z))
 
         module _ (b : ℕ) (eb : b ≡ countRefusal ((m .session .queue .counters .lost + (due .given + due .lost)) ∷ [])) where
           counted : b ≡ counts

@@ -9,14 +9,14 @@ use Rattle.words.specs.Order.{ascends}
 use Rattle.config.specs.declared.NackTimings.{NackTimings}
 use Rattle.model.specs.declared.Session.{Session}
 use Rattle.model.specs.Records.{Gap, State, gapNumbers}
-use Rattle.model.specs.Rules.{MAX-LOST-NACKED, full}
+use Rattle.model.specs.Rules.{MAX-LOST-NACKED, full, givenUp, notGivenUp}
 use Rattle.model.specs.Lists.{some?, every?}
-use Rattle.model.specs.Poll.{givenUp, notGivenUp, drainedQueue, drained, handsOut, goingOut, lostUnder, timingsOf, dueGaps}
+use Rattle.model.specs.Poll.{drainedQueue, drained, handsOut, goingOut, lostUnder, timingsOf, dueGaps}
 use Rattle.model.specs.Storage.{Storage, Stored, REMEMBERED-WORDS, entryWords, payloadBytes, gapWords, rememberedWords, gapsOf, write}
 use Rattle.packet_gaps.specs.Gaps.{GapsIn, instantsFit, Small}
 use Rattle.entries.specs.Entries.{EntriesIn}
 use Rattle.lost_nacked.specs.Remembered.{RememberedIn}
-use Rattle.poll.specs.declared.Due.{Due}
+use Rattle.poll.specs.declared.Effect.{Effect}
 
 -- an entry is there to go out
 pub record Handing (m : Stored) : Type 0 where
@@ -44,8 +44,8 @@ drainedSession now s gaps =
     record { queue = drainedQueue now (s .queue) gaps; entries = s .entries; gaps = length (notGivenUp set gaps); remembered = s .remembered }
 
 -- what `poll` does, by counts: the gaps given up, whether the front entry goes out, and the gaps lost below it
-unfoldable pub dueFor : ℕ → State → Due
-dueFor now s =
+unfoldable pub effectFor : ℕ → State → Effect
+effectFor now s =
     let set = s .queue .config .settings in
     record { given = length (givenUp set (s .gaps)); «goes_out» = handsOut now (s .queue) (s .entries); lost = length (lostUnder (set .mode) (goingOut now s (s .entries)) (drained now s .gaps)) }
 

@@ -12,8 +12,8 @@ ghost use Rattle.durations.specs.Seconds.{largest};
 ghost use Rattle.refusals.specs.Refusals.{orElse};
 ghost use Rattle.config.specs.Valid.{settingsValid};
 ghost use Rattle.model.specs.Records.{gapNumbers};
-ghost use Rattle.model.specs.Rules.{MAX-LOST-NACKED, rememberedAfter};
-ghost use Rattle.model.specs.Poll.{givenUp, notGivenUp, handsOut, lostBelow, lostUnder, handOut};
+ghost use Rattle.model.specs.Rules.{MAX-LOST-NACKED, rememberedAfter, givenUp, notGivenUp, lostBelow};
+ghost use Rattle.model.specs.Poll.{handsOut, lostUnder, handOut};
 ghost use Rattle.model.specs.Valid.{lastSound};
 ghost use Rattle.model.specs.Storage.{ENTRY-WORDS, PAYLOAD-BYTES, GAP-WORDS, REMEMBERED-WORDS, gapWords, rememberedWords, entriesOf, gapsOf, rememberedOf, parse};
 ghost use Rattle.packet_gaps.specs.Gaps.{GapsIn};
@@ -25,9 +25,9 @@ ghost use Rattle.model.specs.Did.{accepted};
 ghost use Rattle.model.specs.Calls.{delayIn, handed, payloadOut};
 ghost use Rattle.entries.specs.Entries.{entry};
 ghost use Rattle.poll.specs.Answers as Answers;
-ghost use Rattle.model.specs.Contract.{storage, stored, Does};
+ghost use Rattle.model.specs.Contract.{stored, lent, before, after, Does};
 ghost use Rattle.storage.specs.Settled.{Settled};
-ghost use Rattle.poll.specs.Steps.{Handing, Leaves, drainedSession, dueFor};
+ghost use Rattle.poll.specs.Steps.{Handing, Leaves, drainedSession, effectFor};
 use config::RtpInboundQueueMode;
 use config::Settings;
 use entries::Entry;
@@ -66,7 +66,7 @@ pub struct Polled {
 }
 
 // What a `poll` does: how many gaps at the front are given up, whether the front entry goes out, and how many gaps are lost below it.
-struct Due {
+struct Effect {
     given: usize,
     goes_out: bool,
     lost: usize,
@@ -87,8 +87,8 @@ pub(crate) fn output_and_clock_refusal(q: Queue, instant: u64, needed: usize, ro
     ensures { λ r. ⌜ r ≡ orElse (outputRefusal needed room) (clockRefusal q instant) ⌝ }
 {
     let short = output_refusal(needed, room);
-    let late = checks::clock_refusal(q, instant);
-    refusals::or_else(short, late)
+    let clock = checks::clock_refusal(q, instant);
+    refusals::or_else(short, clock)
 }
 
 // How many gaps at the front are given up.
@@ -107,18 +107,6 @@ pub(crate) fn given_up(q: Queue, gaps: &[u64], n: usize) -> usize
     }
 }
 
-// Takes the first k gaps out; where there are none to take, nothing moves.
-fn take_front(gaps: &mut [u64], n: usize, k: usize)
-    requires { ⌜ GapsIn (now gaps) n ⌝ }
-    requires { ⌜ k ≤ n ⌝ }
-    ensures { λ _. ⌜ now (gaps .exit) ≡ laid gapWords (length (now (gaps .entry))) (drop k (gapsOf (now (gaps .entry)) n)) ⌝ }
-{
-    if k == 0 {
-        return;
-    }
-    packet_gaps::drain(gaps, n, k);
-}
-
 // The clock, then `drain_lost`: the gaps that are given up go.
 pub(crate) fn drain(s: Session, gaps: &mut [u64], given: usize, instant: u64) -> Session
     requires { ⌜ GapsIn (now gaps) (s .gaps) ⌝ }
@@ -128,7 +116,7 @@ pub(crate) fn drain(s: Session, gaps: &mut [u64], given: usize, instant: u64) ->
     ensures { λ _. ⌜ now (gaps .exit) ≡ laid gapWords (length (now (gaps .entry))) (notGivenUp (s .queue .config .settings) (gapsOf (now (gaps .entry)) (s .gaps))) ⌝ }
 {
     let drained = session::poll::drained(s.queue, instant, given as u64);
-    take_front(gaps, s.gaps, given);
+    packet_gaps::drain(gaps, s.gaps, given);
     Session {
         queue: drained,
         entries: s.entries,
@@ -181,18 +169,18 @@ fn goes_out(q: Queue, entries: &[u64], n: usize, instant: u64) -> bool
 }
 
 // What a `poll` at this instant does.
-fn due_at(s: Session, entries: &[u64], gaps: &[u64], instant: u64) -> Due
+fn effect_at(s: Session, entries: &[u64], gaps: &[u64], instant: u64) -> Effect
     requires { ⌜ (ENTRY-WORDS * s .entries ≤ length (now entries)) × (GAP-WORDS * s .gaps ≤ length (now gaps)) ⌝ }
     requires { ⌜ ascends (gapNumbers (gapsOf (now gaps) (s .gaps))) ≡ true ⌝ }
     requires { ⌜ (s .queue .clock ≤ instant) × (instant ≤ largest) ⌝ }
     requires { ⌜ T (settingsValid (s .queue .config .settings)) × T (lastSound (s .queue .clock) (s .queue .last)) ⌝ }
-    ensures { λ r. ⌜ ((payloads remembered : List ℕ) → r ≡ dueFor instant (parse (stored s (now (entries .entry)) payloads (now (gaps .entry)) remembered))) ⌝ }
+    ensures { λ r. ⌜ ((payloads remembered : List ℕ) → r ≡ effectFor instant (parse (stored s (now (entries .entry)) payloads (now (gaps .entry)) remembered))) ⌝ }
 {
     let queue = s.queue;
     let given = given_up(queue, gaps, s.gaps);
     let ready = goes_out(queue, entries, s.entries, instant);
     if !ready {
-        return Due {
+        return Effect {
             given,
             goes_out: false,
             lost: 0,
@@ -200,7 +188,7 @@ fn due_at(s: Session, entries: &[u64], gaps: &[u64], instant: u64) -> Due
     }
     let first = entries::read(entries, 0);
     let lost = lost_below(queue, gaps, s.gaps, first.number);
-    Due {
+    Effect {
         given,
         goes_out: true,
         lost,
@@ -208,11 +196,11 @@ fn due_at(s: Session, entries: &[u64], gaps: &[u64], instant: u64) -> Due
 }
 
 // 14
-fn count_refusal(q: Queue, due: Due) -> u64
-    requires { ⌜ q .counters .lost + (due .given + due .lost) < 2 ^ 64 ⌝ }
-    ensures { λ r. ⌜ r ≡ Table.countRefusal ((q .counters .lost + (due .given + due .lost)) ∷ []) ⌝ }
+fn count_refusal(q: Queue, effect: Effect) -> u64
+    requires { ⌜ q .counters .lost + (effect .given + effect .lost) < 2 ^ 64 ⌝ }
+    ensures { λ r. ⌜ r ≡ Table.countRefusal ((q .counters .lost + (effect .given + effect .lost)) ∷ []) ⌝ }
 {
-    session::poll::lost_refusal(q, (due.given + due.lost) as u64)
+    session::poll::lost_refusal(q, (effect.given + effect.lost) as u64)
 }
 
 // How long a packet waits.
@@ -262,14 +250,14 @@ fn hand_out(
     requires { ⌜ Handing (stored s (now entries) (now payloads) (now gaps) (now remembered)) ⌝ }
     requires { ⌜ PAYLOAD-BYTES ≤ length (now out) ⌝ }
     requires { ⌜ lost ≡ length (lostUnder (s .queue .config .settings .mode) (take 1 (entriesOf (now entries) (now payloads) (s .entries))) (gapsOf (now gaps) (s .gaps))) ⌝ }
-    ensures { λ r. ⌜ Leaves (handOut (take 1 (entriesOf (now (entries .entry)) (now (payloads .entry)) (s .entries))) (parse (stored s (now (entries .entry)) (now (payloads .entry)) (now (gaps .entry)) (now (remembered .entry))))) (storage (now (entries .entry)) (now (payloads .entry)) (now (gaps .entry)) (now (remembered .entry))) (stored (r .session) (now (entries .exit)) (now (payloads .exit)) (now (gaps .exit)) (now (remembered .exit))) ⌝ }
+    ensures { λ r. ⌜ Leaves (handOut (take 1 (entriesOf (now (entries .entry)) (now (payloads .entry)) (s .entries))) (parse (before entries payloads gaps remembered s))) (lent entries payloads gaps remembered) (after entries payloads gaps remembered (r .session)) ⌝ }
     ensures { λ r. ⌜ Answers.pollAnswer (r .answer) ≡ handed (s .queue) (take 1 (entriesOf (now (entries .entry)) (now (payloads .entry)) (s .entries))) ⌝ }
     ensures { λ r. ⌜ now (out .exit) ≡ over (payloadOut (take 1 (entriesOf (now (entries .entry)) (now (payloads .entry)) (s .entries)))) (now (out .entry)) ⌝ }
 {
     let queue = s.queue;
     let e = entries::pop_front(entries, payloads, s.entries, out);
     let count = remember(queue, remembered, s.remembered, gaps, lost);
-    take_front(gaps, s.gaps, lost);
+    packet_gaps::drain(gaps, s.gaps, lost);
     let next = session::poll::handed_out(queue, lost as u64, e.number);
     let left = Session {
         queue: next,
@@ -292,22 +280,30 @@ fn accept(
     gaps: &mut [u64],
     remembered: &mut [u64],
     instant: u64,
-    due: Due,
+    effect: Effect,
     out: &mut [u8],
 ) -> Polled
     requires { ⌜ Settled (stored s (now entries) (now payloads) (now gaps) (now remembered)) ⌝ }
-    requires { ⌜ due ≡ dueFor instant (parse (stored s (now entries) (now payloads) (now gaps) (now remembered))) ⌝ }
+    requires { ⌜ effect ≡ effectFor instant (parse (stored s (now entries) (now payloads) (now gaps) (now remembered))) ⌝ }
     requires { ⌜ PAYLOAD-BYTES ≤ length (now out) ⌝ }
-    ensures { λ r. ⌜ accepted (Calls.poll instant (now (out .entry))) (parse (stored s (now (entries .entry)) (now (payloads .entry)) (now (gaps .entry)) (now (remembered .entry)))) ≡ record { answer = Answers.pollAnswer (r .answer); stored = stored (r .session) (now (entries .exit)) (now (payloads .exit)) (now (gaps .exit)) (now (remembered .exit)); output = now (out .exit) } ⌝ }
+    ensures { λ r. ⌜ accepted (Calls.poll instant (now (out .entry))) (parse (before entries payloads gaps remembered s)) ≡ record { answer = Answers.pollAnswer (r .answer); stored = after entries payloads gaps remembered (r .session); output = now (out .exit) } ⌝ }
 {
-    let drained = drain(s, gaps, due.given, instant);
-    if !due.goes_out {
+    let drained = drain(s, gaps, effect.given, instant);
+    if !effect.goes_out {
         return Polled {
             answer: PollAnswer::Nothing,
             session: drained,
         };
     }
-    hand_out(drained, entries, payloads, gaps, remembered, due.lost, out)
+    hand_out(
+        drained,
+        entries,
+        payloads,
+        gaps,
+        remembered,
+        effect.lost,
+        out,
+    )
 }
 
 // Hands out the front entry, if its time has come: its payload goes to the front of `out`.
@@ -320,19 +316,24 @@ pub fn poll(
     now: u64,
     out: &mut [u8],
 ) -> Polled
-    ensures { λ r. ⌜ Does (Calls.poll now (out .entry .now)) (stored session (entries .entry .now) (payloads .entry .now) (gaps .entry .now) (remembered .entry .now)) (Answers.pollAnswer (r .answer)) (stored (r .session) (entries .exit .now) (payloads .exit .now) (gaps .exit .now) (remembered .exit .now)) (out .exit .now) ⌝ }
+    ensures { λ r. ⌜ Does (Calls.poll now (out .entry .now)) (before entries payloads gaps remembered session) (Answers.pollAnswer (r .answer)) (after entries payloads gaps remembered (r .session)) (out .exit .now) ⌝ }
 {
     let damaged = storage::session_refusal(session, entries, payloads, gaps, remembered);
-    let late = output_and_clock_refusal(session.queue, now, rtp_packet::LARGEST_PAYLOAD, out.len());
-    let early = refusals::or_else(damaged, late);
+    let output = output_and_clock_refusal(
+        session.queue,
+        now,
+        rtp_packet::LARGEST_PAYLOAD,
+        out.len(),
+    );
+    let early = refusals::or_else(damaged, output);
     if early != 0 {
         return Polled {
             answer: PollAnswer::Refused(early),
             session,
         };
     }
-    let due = due_at(session, entries, gaps, now);
-    let count = count_refusal(session.queue, due);
+    let effect = effect_at(session, entries, gaps, now);
+    let count = count_refusal(session.queue, effect);
     if count != 0 {
         return Polled {
             answer: PollAnswer::Refused(count),
@@ -340,5 +341,14 @@ pub fn poll(
         };
     }
     storage::settle(session, entries, payloads, gaps, remembered);
-    accept(session, entries, payloads, gaps, remembered, now, due, out)
+    accept(
+        session,
+        entries,
+        payloads,
+        gaps,
+        remembered,
+        now,
+        effect,
+        out,
+    )
 }

@@ -7,14 +7,14 @@ ghost use lib.ListN.{length};
 ghost use Rattle.words.specs.Blocks.{laid};
 ghost use Rattle.words.specs.Words.{over};
 ghost use Rattle.model.specs.Lists.{every?};
-ghost use Rattle.model.specs.Rules.{nackDue, truncated};
-ghost use Rattle.model.specs.Poll.{givenUp, notGivenUp, timingsOf, dueGaps};
+ghost use Rattle.model.specs.Rules.{nackDue, truncated, givenUp, notGivenUp};
+ghost use Rattle.model.specs.Poll.{timingsOf, dueGaps};
 ghost use Rattle.model.specs.Calls as Calls;
 ghost use Rattle.model.specs.Storage.{GAP-WORDS, gapWords, gapsOf};
 ghost use Rattle.model.specs.Table.{nacksRefusal};
 ghost use Rattle.packet_gaps.specs.Gaps.{instantsFit, Small};
 ghost use Rattle.poll.specs.Answers as Answers;
-ghost use Rattle.model.specs.Contract.{stored, Does};
+ghost use Rattle.model.specs.Contract.{before, after, Does};
 ghost use Rattle.poll.specs.Steps.{Nacking, drainedSession};
 use config::NackTimings;
 use model::Session;
@@ -95,12 +95,12 @@ pub fn poll_nack(
     now: u64,
     out: &mut [u16],
 ) -> PolledNack
-    ensures { λ r. ⌜ Does (Calls.pollNack now (out .entry .now)) (stored session (entries .entry .now) (payloads .entry .now) (gaps .entry .now) (remembered .entry .now)) (Answers.nackAnswer (r .answer)) (stored (r .session) (entries .exit .now) (payloads .exit .now) (gaps .exit .now) (remembered .exit .now)) (out .exit .now) ⌝ }
+    ensures { λ r. ⌜ Does (Calls.pollNack now (out .entry .now)) (before entries payloads gaps remembered session) (Answers.nackAnswer (r .answer)) (after entries payloads gaps remembered (r .session)) (out .exit .now) ⌝ }
 {
     let needed = session.queue.config.settings.max_gaps;
     let damaged = storage::session_refusal(session, entries, payloads, gaps, remembered);
-    let late = super::output_and_clock_refusal(session.queue, now, needed, out.len());
-    let early = refusals::or_else(damaged, late);
+    let output = super::output_and_clock_refusal(session.queue, now, needed, out.len());
+    let early = refusals::or_else(damaged, output);
     if early != 0 {
         return PolledNack {
             answer: NackAnswer::Refused(early),

@@ -18,7 +18,7 @@ ghost use Rattle.packet_gaps.specs.Gaps.{GapsIn};
 ghost use Rattle.entries.specs.Entries.{entry};
 ghost use Rattle.session.specs.Place as Spec;
 ghost use Rattle.push.specs.Answers.{mediaAnswer};
-ghost use Rattle.model.specs.Contract.{stored, Does};
+ghost use Rattle.model.specs.Contract.{stored, before, after, Does};
 ghost use Rattle.push.specs.Media.{Takes, Fit, didPacket};
 use entries::Entry;
 use model::LastReceived;
@@ -189,7 +189,7 @@ fn packet_refusal(s: Session, e: Entry, place: Place) -> u64
     let settings = config.settings;
     let full = is_full(s);
     let waits = session::push::waits(place);
-    let counts = session::push::counts(
+    let counts = session::push::counts_refusal(
         q.counters,
         e.timestamp,
         e.number,
@@ -197,7 +197,7 @@ fn packet_refusal(s: Session, e: Entry, place: Place) -> u64
         waits,
         full,
     );
-    let gaps = session::push::gaps(settings, s.gaps, e.number, place);
+    let gaps = session::push::gaps_refusal(settings, s.gaps, e.number, place);
     refusals::or_else(counts, gaps)
 }
 
@@ -353,7 +353,7 @@ fn push_packet(
 ) -> Pushed
     requires { ⌜ sessionSound (stored s (now entries) (now payloads) (now gaps) (now remembered)) ≡ true ⌝ }
     requires { ⌜ (instant ≤ largest) × (length (now payload) ≤ LARGEST-PAYLOAD) ⌝ }
-    ensures { λ r. ⌜ didPacket instant (Push.extendedEntry (s .queue) (Opt.Some instant) (p .timestamp .0) (p .«sequence_number» .0) (p .marker) (now (payload .entry))) (stored s (now (entries .entry)) (now (payloads .entry)) (now (gaps .entry)) (now (remembered .entry))) ≡ record { answer = mediaAnswer (r .answer); stored = stored (r .session) (now (entries .exit)) (now (payloads .exit)) (now (gaps .exit)) (now (remembered .exit)); output = [] } ⌝ }
+    ensures { λ r. ⌜ didPacket instant (Push.extendedEntry (s .queue) (Opt.Some instant) (p .timestamp .0) (p .«sequence_number» .0) (p .marker) (now (payload .entry))) (before entries payloads gaps remembered s) ≡ record { answer = mediaAnswer (r .answer); stored = after entries payloads gaps remembered (r .session); output = [] } ⌝ }
 {
     let q = s.queue;
     let arrival = Opt::Some(instant);
@@ -387,7 +387,7 @@ pub fn push(
     now: u64,
     datagram: &[u8],
 ) -> Pushed
-    ensures { λ r. ⌜ Does (media now (datagram .entry .now)) (stored session (entries .entry .now) (payloads .entry .now) (gaps .entry .now) (remembered .entry .now)) (mediaAnswer (r .answer)) (stored (r .session) (entries .exit .now) (payloads .exit .now) (gaps .exit .now) (remembered .exit .now)) [] ⌝ }
+    ensures { λ r. ⌜ Does (media now (datagram .entry .now)) (before entries payloads gaps remembered session) (mediaAnswer (r .answer)) (after entries payloads gaps remembered (r .session)) [] ⌝ }
 {
     let refusal = storage::session_and_clock_refusal(
         session,

@@ -16,7 +16,7 @@ ghost use Rattle.model.specs.Table.{sessionSound, refuseIf, noPlace, fateRefusa
 ghost use Rattle.entries.specs.Entries.{entry};
 ghost use Rattle.session.specs.Place as Spec;
 ghost use Rattle.push.specs.Answers.{repairAnswer};
-ghost use Rattle.model.specs.Contract.{stored, Does};
+ghost use Rattle.model.specs.Contract.{stored, before, after, Does};
 ghost use Rattle.storage.specs.Settled.{Settled};
 ghost use Rattle.push.specs.Repair.{FitRepair, leftAfter, didRepair, didOriginal};
 use entries::Entry;
@@ -68,7 +68,7 @@ fn repair_fate(q: Queue, gaps: &[u64], n: usize, x: ExtendedSequenceNumber) -> F
 }
 
 // 13
-fn entries_full(places: usize, n: usize, fate: Fate) -> u64
+fn entries_refusal(places: usize, n: usize, fate: Fate) -> u64
     ensures { λ r. ⌜ r ≡ refuseIf (noPlace places n (Spec.fate fate)) ENTRIES-FULL ⌝ }
 {
     match fate {
@@ -91,8 +91,8 @@ fn fate_refusal(s: Session, e: Entry, fate: Fate) -> u64
     let q = s.queue;
     let config = q.config;
     let settings = config.settings;
-    let counts = session::rtx::counts(q.rtx, e.timestamp, e.number, e.size as u64, fate);
-    let places = entries_full(2 * settings.max_entries, s.entries, fate);
+    let counts = session::rtx::counts_refusal(q.rtx, e.timestamp, e.number, e.size as u64, fate);
+    let places = entries_refusal(2 * settings.max_entries, s.entries, fate);
     refusals::or_else(counts, places)
 }
 
@@ -180,7 +180,7 @@ fn apply(
     fate: Fate,
 ) -> Session
     requires { ⌜ FitRepair e (now payload) fate (stored s (now entries) (now payloads) (now gaps) (now remembered)) ⌝ }
-    ensures { λ r. ⌜ stored r (now (entries .exit)) (now (payloads .exit)) (now (gaps .exit)) (now (remembered .exit)) ≡ write (Push.afterFate instant (entry e (now (payload .entry))) (Spec.fate fate) (parse (stored s (now (entries .entry)) (now (payloads .entry)) (now (gaps .entry)) (now (remembered .entry))))) ⌝ }
+    ensures { λ r. ⌜ after entries payloads gaps remembered r ≡ write (Push.afterFate instant (entry e (now (payload .entry))) (Spec.fate fate) (parse (before entries payloads gaps remembered s))) ⌝ }
 {
     match fate {
         Fate::TooLate => too_late(s, entries, payloads, gaps, remembered, instant, e),
@@ -211,7 +211,7 @@ fn push_original(
 ) -> PushedRtx
     requires { ⌜ sessionSound (stored s (now entries) (now payloads) (now gaps) (now remembered)) ≡ true ⌝ }
     requires { ⌜ length (now payload) ≤ LARGEST-PAYLOAD ⌝ }
-    ensures { λ r. ⌜ didRepair instant (Push.extendedEntry (s .queue) Opt.None (p .timestamp .0) (number .0) (p .marker) (now (payload .entry))) (stored s (now (entries .entry)) (now (payloads .entry)) (now (gaps .entry)) (now (remembered .entry))) ≡ record { answer = repairAnswer (r .answer); stored = stored (r .session) (now (entries .exit)) (now (payloads .exit)) (now (gaps .exit)) (now (remembered .exit)); output = [] } ⌝ }
+    ensures { λ r. ⌜ didRepair instant (Push.extendedEntry (s .queue) Opt.None (p .timestamp .0) (number .0) (p .marker) (now (payload .entry))) (before entries payloads gaps remembered s) ≡ record { answer = repairAnswer (r .answer); stored = after entries payloads gaps remembered (r .session); output = [] } ⌝ }
 {
     let q = s.queue;
     let arrival = Opt::None;
@@ -250,7 +250,7 @@ fn push_repair(
 ) -> PushedRtx
     requires { ⌜ sessionSound (stored s (now entries) (now payloads) (now gaps) (now remembered)) ≡ true ⌝ }
     requires { ⌜ length (now payload) ≤ LARGEST-REPAIR ⌝ }
-    ensures { λ r. ⌜ didOriginal instant p (now (payload .entry)) (stored s (now (entries .entry)) (now (payloads .entry)) (now (gaps .entry)) (now (remembered .entry))) ≡ record { answer = repairAnswer (r .answer); stored = stored (r .session) (now (entries .exit)) (now (payloads .exit)) (now (gaps .exit)) (now (remembered .exit)); output = [] } ⌝ }
+    ensures { λ r. ⌜ didOriginal instant p (now (payload .entry)) (before entries payloads gaps remembered s) ≡ record { answer = repairAnswer (r .answer); stored = after entries payloads gaps remembered (r .session); output = [] } ⌝ }
 {
     let refusal = checks::media_first_refusal(s.queue);
     if refusal != 0 {
@@ -285,7 +285,7 @@ pub fn push_rtx(
     now: u64,
     datagram: &[u8],
 ) -> PushedRtx
-    ensures { λ r. ⌜ Does (repair now (datagram .entry .now)) (stored session (entries .entry .now) (payloads .entry .now) (gaps .entry .now) (remembered .entry .now)) (repairAnswer (r .answer)) (stored (r .session) (entries .exit .now) (payloads .exit .now) (gaps .exit .now) (remembered .exit .now)) [] ⌝ }
+    ensures { λ r. ⌜ Does (repair now (datagram .entry .now)) (before entries payloads gaps remembered session) (repairAnswer (r .answer)) (after entries payloads gaps remembered (r .session)) [] ⌝ }
 {
     let damaged = storage::session_and_clock_refusal(
         session,

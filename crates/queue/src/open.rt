@@ -4,7 +4,7 @@ ghost use Rattle.model.specs.Records.{newState};
 ghost use Rattle.model.specs.Storage.{write};
 ghost use Rattle.model.specs.Table.{openingRefusal};
 ghost use Rattle.queue.specs.Answers.{openingAnswer};
-ghost use Rattle.model.specs.Contract.{storage, Opens};
+ghost use Rattle.model.specs.Contract.{storage, lent, left, Opens};
 use super::Opening;
 use jitter::Jitter;
 use model::Config;
@@ -70,7 +70,7 @@ pub fn open(
     gaps: &mut [u64],
     remembered: &mut [u64],
 ) -> Opening
-    ensures { λ r. ⌜ Opens config (storage (now (entries .entry)) (now (payloads .entry)) (now (gaps .entry)) (now (remembered .entry))) (openingAnswer r) (storage (now (entries .exit)) (now (payloads .exit)) (now (gaps .exit)) (now (remembered .exit))) ⌝ }
+    ensures { λ r. ⌜ Opens config (lent entries payloads gaps remembered) (openingAnswer r) (left entries payloads gaps remembered) ⌝ }
 {
     let refused = refusal(config, entries, payloads, gaps, remembered);
     if refused != 0 {

@@ -14,7 +14,7 @@ ghost use Rattle.model.specs.Valid.{lastSound};
 ghost use Rattle.model.specs.Storage.{ENTRY-WORDS, entryOf, entriesOf};
 ghost use Rattle.model.specs.Calls as Calls;
 ghost use Rattle.queue.specs.Answers.{timeoutAnswer, statsAnswer, highestAnswer};
-ghost use Rattle.model.specs.Contract.{stored, Does};
+ghost use Rattle.model.specs.Contract.{before, after, Does};
 use super::HighestAnswer;
 use super::StatsAnswer;
 use super::TimeoutAnswer;
@@ -76,7 +76,7 @@ pub fn timeout_receive(
     remembered: &mut [u64],
     now: u64,
 ) -> TimeoutAnswer
-    ensures { λ r. ⌜ Does (Calls.timeoutReceive now) (stored session (entries .entry .now) (payloads .entry .now) (gaps .entry .now) (remembered .entry .now)) (timeoutAnswer r) (stored session (entries .exit .now) (payloads .exit .now) (gaps .exit .now) (remembered .exit .now)) [] ⌝ }
+    ensures { λ r. ⌜ Does (Calls.timeoutReceive now) (before entries payloads gaps remembered session) (timeoutAnswer r) (after entries payloads gaps remembered session) [] ⌝ }
 {
     let refusal = storage::session_and_clock_refusal(
         session,
@@ -102,7 +102,7 @@ pub fn timeout_nack(
     remembered: &mut [u64],
     now: u64,
 ) -> TimeoutAnswer
-    ensures { λ r. ⌜ Does (Calls.timeoutNack now) (stored session (entries .entry .now) (payloads .entry .now) (gaps .entry .now) (remembered .entry .now)) (timeoutAnswer r) (stored session (entries .exit .now) (payloads .exit .now) (gaps .exit .now) (remembered .exit .now)) [] ⌝ }
+    ensures { λ r. ⌜ Does (Calls.timeoutNack now) (before entries payloads gaps remembered session) (timeoutAnswer r) (after entries payloads gaps remembered session) [] ⌝ }
 {
     let refusal = storage::session_and_clock_refusal(
         session,
@@ -140,7 +140,7 @@ pub fn rtx_stats(
     gaps: &mut [u64],
     remembered: &mut [u64],
 ) -> StatsAnswer
-    ensures { λ r. ⌜ Does Calls.rtxStats (stored session (entries .entry .now) (payloads .entry .now) (gaps .entry .now) (remembered .entry .now)) (statsAnswer r) (stored session (entries .exit .now) (payloads .exit .now) (gaps .exit .now) (remembered .exit .now)) [] ⌝ }
+    ensures { λ r. ⌜ Does Calls.rtxStats (before entries payloads gaps remembered session) (statsAnswer r) (after entries payloads gaps remembered session) [] ⌝ }
 {
     let refusal = storage::session_refusal(session, entries, payloads, gaps, remembered);
     if refusal != 0 {
@@ -170,7 +170,7 @@ pub fn highest_sequence_number_received(
     gaps: &mut [u64],
     remembered: &mut [u64],
 ) -> HighestAnswer
-    ensures { λ r. ⌜ Does Calls.highestReceived (stored session (entries .entry .now) (payloads .entry .now) (gaps .entry .now) (remembered .entry .now)) (highestAnswer r) (stored session (entries .exit .now) (payloads .exit .now) (gaps .exit .now) (remembered .exit .now)) [] ⌝ }
+    ensures { λ r. ⌜ Does Calls.highestReceived (before entries payloads gaps remembered session) (highestAnswer r) (after entries payloads gaps remembered session) [] ⌝ }
 {
     let refusal = storage::session_refusal(session, entries, payloads, gaps, remembered);
     if refusal != 0 {

@@ -156,7 +156,7 @@ pub fn pushed_out(q: Queue, number: ExtendedSequenceNumber) -> Queue
 }
 
 // 14 for one value.
-pub fn count(value: u64) -> u64
+pub fn count_refusal(value: u64) -> u64
     ensures { λ r. ⌜ r ≡ Table.countRefusal (value ∷ []) ⌝ }
 {
     if LARGEST < value {
@@ -166,7 +166,7 @@ pub fn count(value: u64) -> u64
 }
 
 // 14 for a counter that would go up by one.
-pub fn next_count(value: u64) -> u64
+pub fn next_count_refusal(value: u64) -> u64
     ensures { λ r. ⌜ r ≡ Table.countRefusal ((value + 1) ∷ []) ⌝ }
 {
     if LARGEST <= value {
@@ -176,12 +176,12 @@ pub fn next_count(value: u64) -> u64
 }
 
 // 14 for what a packet would raise; `full` says that the front entry would be pushed out.
-fn raised(c: Counters, size: u64, waits: bool, full: bool) -> u64
+fn counters_refusal(c: Counters, size: u64, waits: bool, full: bool) -> u64
     requires { ⌜ (c .bytes ≤ largest) × (size ≤ largest) ⌝ }
     ensures { λ r. ⌜ r ≡ Table.countRefusal (Table.mediaValues c size waits full) ⌝ }
 {
     if !waits {
-        return next_count(c.dropped);
+        return next_count_refusal(c.dropped);
     }
     if LARGEST <= c.received {
         return refusals::COUNT;
@@ -190,13 +190,13 @@ fn raised(c: Counters, size: u64, waits: bool, full: bool) -> u64
         return refusals::COUNT;
     }
     if full {
-        return next_count(c.dropped);
+        return next_count_refusal(c.dropped);
     }
     0
 }
 
 // 14
-pub fn counts(
+pub fn counts_refusal(
     c: Counters,
     timestamp: ExtendedRtpTimestamp,
     number: ExtendedSequenceNumber,
@@ -213,11 +213,11 @@ pub fn counts(
     if LARGEST < number.0 {
         return refusals::COUNT;
     }
-    raised(c, size, waits, full)
+    counters_refusal(c, size, waits, full)
 }
 
 // 12 with so many gaps open and a step of s above the highest.
-fn gaps_full(max_gaps: usize, opened: usize, s: u64) -> u64
+fn room_refusal(max_gaps: usize, opened: usize, s: u64) -> u64
     requires { ⌜ opened ≤ «max_gaps» ⌝ }
     ensures { λ r. ⌜ r ≡ Table.refuseIf (ltb «max_gaps» (opened + (s - 1)) && leb 2 s) Refusals.GAPS-FULL ⌝ }
 {
@@ -232,14 +232,19 @@ fn gaps_full(max_gaps: usize, opened: usize, s: u64) -> u64
 }
 
 // 12, with so many gaps open.
-pub fn gaps(settings: Settings, opened: usize, number: ExtendedSequenceNumber, place: Place) -> u64
+pub fn gaps_refusal(
+    settings: Settings,
+    opened: usize,
+    number: ExtendedSequenceNumber,
+    place: Place,
+) -> u64
     requires { ⌜ opened ≤ settings .«max_gaps» ⌝ }
     ensures { λ r. ⌜ r ≡ Table.refuseIf (Table.tooManyGaps settings opened (number .0) (Spec.place place)) Refusals.GAPS-FULL ⌝ }
 {
     match place {
         Place::Near(h) => {
             let s = rtp::saturating_sub(number.0, h.0);
-            gaps_full(settings.max_gaps, opened, s)
+            room_refusal(settings.max_gaps, opened, s)
         }
         Place::First => 0,
         Place::Far(_) => 0,

@@ -66,24 +66,24 @@ pub fn recovered(q: Queue, now: u64, nacked: Opt, size: u64) -> Queue
 }
 
 // 14 for what a repair would raise.
-fn raised(rtx: RtxState, size: u64, fate: Fate) -> u64
+fn counters_refusal(rtx: RtxState, size: u64, fate: Fate) -> u64
     requires { ⌜ (rtx .«bytes_received» ≤ largest) × (size ≤ largest) ⌝ }
     ensures { λ r. ⌜ r ≡ Table.countRefusal (Table.fateValues rtx size (Spec.fate fate)) ⌝ }
 {
     match fate {
-        Fate::TooLate => super::push::next_count(rtx.received_too_late),
-        Fate::Redundant => super::push::next_count(rtx.received_redundant),
+        Fate::TooLate => super::push::next_count_refusal(rtx.received_too_late),
+        Fate::Redundant => super::push::next_count_refusal(rtx.received_redundant),
         Fate::Recovered => {
             if LARGEST <= rtx.received_in_time {
                 return refusals::COUNT;
             }
-            super::push::count(rtx.bytes_received + size)
+            super::push::count_refusal(rtx.bytes_received + size)
         }
     }
 }
 
 // 14
-pub fn counts(
+pub fn counts_refusal(
     rtx: RtxState,
     timestamp: ExtendedRtpTimestamp,
     number: ExtendedSequenceNumber,
@@ -99,5 +99,5 @@ pub fn counts(
     if LARGEST < number.0 {
         return refusals::COUNT;
     }
-    raised(rtx, size, fate)
+    counters_refusal(rtx, size, fate)
 }

@@ -32,7 +32,7 @@ use Rattle.model.proofs.Laid.{entriesOf-laid, gapsOf-laid, rememberedOf-laid, l
 use Rattle.model.proofs.Laid as Laid
 use Rattle.model.proofs.Sound.{Sound}
 use Rattle.model.proofs.SoundTest.{fits-to}
-use Rattle.model.proofs.SoundCalls.{payloads-fit, sound-session, did-taken, never-locks-up}
+use Rattle.model.proofs.SoundCalls.{payloads-fit, sound-session, did-taken, stays-sound}
 use Rattle.packet_gaps.specs.Gaps.{GapsIn, instantsFit}
 use Rattle.packet_gaps.proofs.Model.{sound-instants}
 use Rattle.entries.specs.Entries.{EntriesIn, fits}
@@ -204,7 +204,7 @@ unfolding refusal callRefusal taken
 settled-of m m2 h e =
     let z : refusal rtxStats m ≡ 0 = orElse-second (sessionRefusal m) 0 (sound-none m h) in
     let same : parse m2 ≡ parse m = ap parse e ∙ parse-write (parse m) (payloads-fit (sound-session m (sound-none m h))) in
-    let calm : sessionRefusal m2 ≡ 0 = ap sessionRefusal (e ∙ sym (did-taken rtxStats m z)) ∙ never-locks-up .at-call rtxStats m z in
+    let calm : sessionRefusal m2 ≡ 0 = ap sessionRefusal (e ∙ sym (did-taken rtxStats m z)) ∙ stays-sound .at-call rtxStats m z in
     (record { sound = passed-16 m2 calm; held = e ∙ ap write (sym same) }, same)
 
 -- ---- what check 16 says of the queue, for the functions that go by value

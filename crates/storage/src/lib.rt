@@ -8,7 +8,7 @@ ghost use Rattle.refusals.specs.Refusals.{orElse};
 ghost use Rattle.model.specs.Valid.{countsFit, listsSound};
 ghost use Rattle.model.specs.Storage.{ENTRY-WORDS, GAP-WORDS, REMEMBERED-WORDS, lengthsFit, parse, write};
 ghost use Rattle.model.specs.Table.{sessionSound, sessionRefusal, clockRefusal};
-ghost use Rattle.model.specs.Contract.{storage, stored};
+ghost use Rattle.model.specs.Contract.{storage, stored, before, after};
 use config::Settings;
 use entries::ENTRY_WORDS;
 use entries::PAYLOAD_BYTES;
@@ -106,7 +106,7 @@ pub fn session_refusal(
     refusals::SESSION
 }
 
-// 16, then 8: what a call that only reads the clock checks.
+// 16, then 8: the first checks of a call with an instant and no output.
 pub fn session_and_clock_refusal(
     s: Session,
     entries: &[u64],
@@ -118,8 +118,8 @@ pub fn session_and_clock_refusal(
     ensures { λ r. ⌜ r ≡ orElse (sessionRefusal (stored s (now (entries .entry)) (now (payloads .entry)) (now (gaps .entry)) (now (remembered .entry)))) (clockRefusal (s .queue) instant) ⌝ }
 {
     let damaged = session_refusal(s, entries, payloads, gaps, remembered);
-    let late = checks::clock_refusal(s.queue, instant);
-    refusals::or_else(damaged, late)
+    let clock = checks::clock_refusal(s.queue, instant);
+    refusals::or_else(damaged, clock)
 }
 
 // Zeros in every place of the storage that the session does not use.
@@ -131,7 +131,7 @@ pub fn settle(
     remembered: &mut [u64],
 )
     requires { ⌜ sessionSound (stored s (now entries) (now payloads) (now gaps) (now remembered)) ≡ true ⌝ }
-    ensures { λ _. ⌜ stored s (now (entries .exit)) (now (payloads .exit)) (now (gaps .exit)) (now (remembered .exit)) ≡ write (parse (stored s (now (entries .entry)) (now (payloads .entry)) (now (gaps .entry)) (now (remembered .entry)))) ⌝ }
+    ensures { λ _. ⌜ after entries payloads gaps remembered s ≡ write (parse (before entries payloads gaps remembered s)) ⌝ }
 {
     entries::check::tidy(entries, payloads, s.entries);
     packet_gaps::check::tidy(gaps, s.gaps);

@@ -12,7 +12,7 @@ drain-requires : tie.Need-drain-requires
 drain-requires c κs =
     let s = c .before .before .before .before .before .before in
     let a = s .args in
-    drains (a .instant) (stored (a .s) (a .entries .now) (a .payloads .now) (a .gaps .now) (a .remembered .now)) (s .pre .0) (a .due) (s .pre .1 .0)
+    drains (a .instant) (stored (a .s) (a .entries .now) (a .payloads .now) (a .gaps .now) (a .remembered .now)) (s .pre .0) (a .effect) (s .pre .1 .0)
 
 same-length : tie.Need-same-length
 same-length c = search needs
@@ -23,7 +23,7 @@ returns c =
     let s = c .before .before .before .before .before .before .before .before .before .before .before in
     let a = s .args in
     let d = c .before .before .before .before .drain in
-    nothing-out (a .instant) (stored (a .s) (a .entries .now) (a .payloads .now) (a .gaps .now) (a .remembered .now)) (s .pre .0) (a .due) (s .pre .1 .0) (a .out .now) _ _ (d .ensures .0) (d .ensures .1) (not-true _ (c .if1 .taken))
+    nothing-out (a .instant) (stored (a .s) (a .entries .now) (a .payloads .now) (a .gaps .now) (a .remembered .now)) (s .pre .0) (a .effect) (s .pre .1 .0) (a .out .now) _ _ (d .ensures .0) (d .ensures .1) (not-true _ (c .if1 .taken))
 
 hand-out-requires : tie.Need-hand-out-requires
 hand-out-requires c κs =
@@ -31,8 +31,8 @@ hand-out-requires c κs =
     let a = s .args in
     let m = stored (a .s) (a .entries .now) (a .payloads .now) (a .gaps .now) (a .remembered .now) in
     let d = c .before .before .before .before .before .before .before .before .before .drain in (
-      is-handing (a .instant) m (s .pre .0) (a .due) (s .pre .1 .0) (a .out .now) _ _ (d .ensures .0) (d .ensures .1) (not-false _ (c .before .before .before .before .before .if1 .left)),
-      (s .pre .1 .1, is-lost (a .instant) m (s .pre .0) (a .due) (s .pre .1 .0) (a .out .now) _ _ (d .ensures .0) (d .ensures .1) (not-false _ (c .before .before .before .before .before .if1 .left))),
+      is-handing (a .instant) m (s .pre .0) (a .effect) (s .pre .1 .0) (a .out .now) _ _ (d .ensures .0) (d .ensures .1) (not-false _ (c .before .before .before .before .before .if1 .left)),
+      (s .pre .1 .1, is-lost (a .instant) m (s .pre .0) (a .effect) (s .pre .1 .0) (a .out .now) _ _ (d .ensures .0) (d .ensures .1) (not-false _ (c .before .before .before .before .before .if1 .left))),
     )
 
 same-length-2 : tie.Need-same-length-2
@@ -56,7 +56,7 @@ returns-2 c =
     let a = s .args in
     let d = c .before .before .before .before .before .before .before .before .before .before .before .before .before .before .before .before .before .before .before .before .drain in
     let o = c .before .before .before .before .before .before .before .before .before .before .hand-out .ensures in
-    packet-out (a .instant) (stored (a .s) (a .entries .now) (a .payloads .now) (a .gaps .now) (a .remembered .now)) (s .pre .0) (a .due) (s .pre .1 .0) (a .out .now) _ _ (d .ensures .0) (d .ensures .1) (not-false _ (c .before .before .before .before .before .before .before .before .before .before .before .before .before .before .before .before .if1 .left)) _ _ _ (o .0) (o .1 .0) (o .1 .1)
+    packet-out (a .instant) (stored (a .s) (a .entries .now) (a .payloads .now) (a .gaps .now) (a .remembered .now)) (s .pre .0) (a .effect) (s .pre .1 .0) (a .out .now) _ _ (d .ensures .0) (d .ensures .1) (not-false _ (c .before .before .before .before .before .before .before .before .before .before .before .before .before .before .before .before .if1 .left)) _ _ _ (o .0) (o .1 .0) (o .1 .1)
 
 pub accept-spec : {M : Type 1} → statement M
 accept-spec = tie.close (tie.spec drain-requires same-length returns hand-out-requires same-length-2 same-length-3 same-length-4 same-length-5 same-length-6 returns-2)

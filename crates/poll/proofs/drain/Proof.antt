@@ -14,8 +14,8 @@ drained-requires c κs =
     let a = s .args in
     omega (arith, given-few (a .s .queue) (a .gaps .now) (a .s .gaps) (a .given) (s .pre .1 .0), s .pre .1 .1)
 
-take-front-requires : tie.Need-take-front-requires
-take-front-requires c κs =
+drain-requires : tie.Need-drain-requires
+drain-requires c κs =
     let s = c .before .before .before in
     let a = s .args in
     (s .pre .0, given-few (a .s .queue) (a .gaps .now) (a .s .gaps) (a .given) (s .pre .1 .0))
@@ -35,7 +35,7 @@ returns c =
     let a = s .args in
     let set = a .s .queue .config .settings in
     let l = gapsOf (a .gaps .now) (a .s .gaps) in
-    (drained-is (a .instant) (a .s) l (a .given) _ (length-gapsOf (a .gaps .now) (a .s .gaps)) (s .pre .1 .0) (c .before .before .before .before .before .drained .ensures), c .before .before .before .take-front .ensures ∙ rw (s .pre .1 .0, not-given-up set (set .mode) l))
+    (drained-is (a .instant) (a .s) l (a .given) _ (length-gapsOf (a .gaps .now) (a .s .gaps)) (s .pre .1 .0) (c .before .before .before .before .before .drained .ensures), c .before .before .before .drain .ensures ∙ rw (s .pre .1 .0, not-given-up set (set .mode) l))
 
 pub drain-spec : {M : Type 1} → statement M
-drain-spec = tie.close (tie.spec drained-requires take-front-requires sub-t10 same-length returns)
+drain-spec = tie.close (tie.spec drained-requires drain-requires sub-t10 same-length returns)

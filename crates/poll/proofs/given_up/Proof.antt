@@ -1,7 +1,7 @@
 -- `given_up` meets its contract, arm by arm.
 use mathlib.Core.Path.{_≡_}
 use Rattle.config.specs.declared.RtpInboundQueueMode.the-variants.{Passthrough, SortedQueue}
-use Rattle.model.specs.Poll.{givenUpIn}
+use Rattle.model.specs.Rules.{givenUpIn}
 use borrow.Author.Needs.{needs}
 use Rattle.poll.proofs.given_up.Statement.{statement}
 use Rattle.poll.proofs.given_up.Tie as tie

@@ -5,7 +5,8 @@ use native.Mathlib.Omega.{arith}
 use lib.ListN.{length}
 use mathlib.Core.List.{List}
 use Rattle.model.specs.Records.{Entry}
-use Rattle.model.specs.Poll.{lostBelow, lostUnder}
+use Rattle.model.specs.Rules.{lostBelow}
+use Rattle.model.specs.Poll.{lostUnder}
 use Rattle.model.specs.Storage.{gapsOf}
 use Rattle.model.specs.Calls.{handed, packet}
 use Rattle.poll.specs.Answers.{pollAnswer}
@@ -37,8 +38,8 @@ remember-requires c κs =
     let h = c .before .before .before .before .before .before .before .before .before .before .before .before .before .before .before .before .before .before .pre .0 in
     (h .remembered-in, ((h .few, h .room), omega (arith, few (c .before .before .before .before .before .before .before .before), h .gaps-in .room)))
 
-take-front-requires : tie.Need-take-front-requires
-take-front-requires c κs = (c .before .before .before .before .before .before .before .before .before .before .before .before .before .before .before .before .before .before .before .before .before .before .pre .0 .gaps-in, few (c .before .before .before .before .before .before .before .before .before .before .before .before))
+drain-requires : tie.Need-drain-requires
+drain-requires c κs = (c .before .before .before .before .before .before .before .before .before .before .before .before .before .before .before .before .before .before .before .before .before .before .pre .0 .gaps-in, few (c .before .before .before .before .before .before .before .before .before .before .before .before))
 
 handed-out-requires : tie.Need-handed-out-requires
 handed-out-requires c κs = omega (arith, few (c .before .before .before .before .before .before .before .before .before .before .before .before .before .before .before), c .before .before .before .before .before .before .before .before .before .before .before .before .before .before .before .before .before .before .before .before .before .before .before .before .before .pre .0 .lost-fits)
@@ -76,9 +77,9 @@ returns c =
     let o = c .before .before .before .before .before .before .before .before .before .before .before .before .before .before .before .before .before .before .before .pop-front in
     let t = o .ensures .0 in
     let size = payload-size (o .result .size) (a .payloads .now) (a .s .entries) (h .entries-in .places) (h .some) (o .ensures .1 .1 .1 .1) in (
-      handed-leaves (a .s) (a .entries .now) (a .payloads .now) (a .gaps .now) (a .remembered .now) (h .ascend) (o .result) _ t (a .lost) (below (c .before .before .before .before .before .before .before .before .before .before .before .before .before .before .before .before .before .before .before)) _ _ _ _ _ _ (c .before .before .before .handed-out .ensures) (c .before .before .before .before .before .before .before .before .before .before .remember .ensures .0) (o .ensures .1 .0) (o .ensures .1 .1 .0) (c .before .before .before .before .before .before .take-front .ensures) (c .before .before .before .before .before .before .before .before .before .before .remember .ensures .1),
+      handed-leaves (a .s) (a .entries .now) (a .payloads .now) (a .gaps .now) (a .remembered .now) (h .ascend) (o .result) _ t (a .lost) (below (c .before .before .before .before .before .before .before .before .before .before .before .before .before .before .before .before .before .before .before)) _ _ _ _ _ _ (c .before .before .before .handed-out .ensures) (c .before .before .before .before .before .before .before .before .before .before .remember .ensures .0) (o .ensures .1 .0) (o .ensures .1 .1 .0) (c .before .before .before .before .before .before .drain .ensures) (c .before .before .before .before .before .before .before .before .before .before .remember .ensures .1),
       (rw t (ap packet (c .packet .ensures _ size)), o .ensures .1 .1 .1 .0),
     )
 
 pub hand-out-spec : {M : Type 1} → statement M
-hand-out-spec = tie.close (tie.spec pop-front-requires remember-requires take-front-requires handed-out-requires sub-t28 sub-t29 packet-requires same-length same-length-2 same-length-3 same-length-4 same-length-5 returns)
+hand-out-spec = tie.close (tie.spec pop-front-requires remember-requires drain-requires handed-out-requires sub-t28 sub-t29 packet-requires same-length same-length-2 same-length-3 same-length-4 same-length-5 returns)

@@ -1,7 +1,7 @@
 -- `lost_below` meets its contract, arm by arm.
 use mathlib.Core.Path.{_≡_}
 use Rattle.config.specs.declared.RtpInboundQueueMode.the-variants.{Passthrough, SortedQueue}
-use Rattle.model.specs.Poll.{lostBelow}
+use Rattle.model.specs.Rules.{lostBelow}
 use borrow.Author.Needs.{needs}
 use Rattle.poll.proofs.lost_below.Statement.{statement}
 use Rattle.poll.proofs.lost_below.Tie as tie

@@ -42,15 +42,15 @@ returns c =
     let a = c .before .before .before .before .before .before .before .before .before .before .before .before .before .args in
     poll-early (a .now) (stored (a .session) (a .entries .now) (a .payloads .now) (a .gaps .now) (a .remembered .now)) (a .out .now) _ (early (c .before)) (c .if1 .taken)
 
-due-at-requires : tie.Need-due-at-requires
-due-at-requires c κs =
+effect-at-requires : tie.Need-effect-at-requires
+effect-at-requires c κs =
     let a = c .before .before .before .before .before .before .before .before .before .before .before .before .before .before .before .args in
     poll-counted (a .now) (stored (a .session) (a .entries .now) (a .payloads .now) (a .gaps .now) (a .remembered .now)) (a .out .now) _ (early (c .before .before .before)) (c .before .before .if1 .left)
 
 count-refusal-requires : tie.Need-count-refusal-requires
 count-refusal-requires c κs =
     let a = c .before .before .before .before .before .before .before .before .before .before .before .before .before .before .before .before .args in
-    poll-fits (a .now) (stored (a .session) (a .entries .now) (a .payloads .now) (a .gaps .now) (a .remembered .now)) (a .out .now) _ (early (c .before .before .before .before)) (c .before .before .before .if1 .left) _ (c .due-at .ensures (a .payloads .now) (a .remembered .now))
+    poll-fits (a .now) (stored (a .session) (a .entries .now) (a .payloads .now) (a .gaps .now) (a .remembered .now)) (a .out .now) _ (early (c .before .before .before .before)) (c .before .before .before .if1 .left) _ (c .effect-at .ensures (a .payloads .now) (a .remembered .now))
 
 same-length-5 : tie.Need-same-length-5
 same-length-5 c = search needs
@@ -68,7 +68,7 @@ returns-2 : tie.Need-returns-2
 unfolding pollAnswer
 returns-2 c =
     let a = c .before .before .before .before .before .before .before .before .before .before .before .before .before .before .before .before .before .before .args in
-    poll-late (a .now) (stored (a .session) (a .entries .now) (a .payloads .now) (a .gaps .now) (a .remembered .now)) (a .out .now) _ (early (c .before .before .before .before .before .before)) (c .before .before .before .before .before .if1 .left) _ (c .before .before .due-at .ensures (a .payloads .now) (a .remembered .now)) _ (c .before .count-refusal .ensures) (c .if2 .taken)
+    poll-late (a .now) (stored (a .session) (a .entries .now) (a .payloads .now) (a .gaps .now) (a .remembered .now)) (a .out .now) _ (early (c .before .before .before .before .before .before)) (c .before .before .before .before .before .if1 .left) _ (c .before .before .effect-at .ensures (a .payloads .now) (a .remembered .now)) _ (c .before .count-refusal .ensures) (c .if2 .taken)
 
 settle-requires : tie.Need-settle-requires
 settle-requires c κs =
@@ -78,7 +78,7 @@ settle-requires c κs =
 accept-requires : tie.Need-accept-requires
 accept-requires c κs =
     let a = c .before .before .before .before .before .before .before .before .before .before .before .before .before .before .before .before .before .before .before .before .before .before .before .before .before .before .before .before .before .before .before .before .before .before .before .before .args in
-    poll-taken (a .now) (stored (a .session) (a .entries .now) (a .payloads .now) (a .gaps .now) (a .remembered .now)) (a .out .now) _ (early (c .before .before .before .before .before .before .before .before .before .before .before .before .before .before .before .before .before .before .before .before .before .before .before .before)) (c .before .before .before .before .before .before .before .before .before .before .before .before .before .before .before .before .before .before .before .before .before .before .before .if1 .left) _ (c .before .before .before .before .before .before .before .before .before .before .before .before .before .before .before .before .before .before .before .before .due-at .ensures (a .payloads .now) (a .remembered .now)) _ (c .before .before .before .before .before .before .before .before .before .before .before .before .before .settle .ensures)
+    poll-taken (a .now) (stored (a .session) (a .entries .now) (a .payloads .now) (a .gaps .now) (a .remembered .now)) (a .out .now) _ (early (c .before .before .before .before .before .before .before .before .before .before .before .before .before .before .before .before .before .before .before .before .before .before .before .before)) (c .before .before .before .before .before .before .before .before .before .before .before .before .before .before .before .before .before .before .before .before .before .before .before .if1 .left) _ (c .before .before .before .before .before .before .before .before .before .before .before .before .before .before .before .before .before .before .before .before .effect-at .ensures (a .payloads .now) (a .remembered .now)) _ (c .before .before .before .before .before .before .before .before .before .before .before .before .before .settle .ensures)
 
 same-length-9 : tie.Need-same-length-9
 same-length-9 c = c .before .before .before .before .before .before .before .before .before .entries2 .given ∙ c .before .before .before .before .before .before .before .before .before .before .before .before .before .before .before .before .before .before .before .before .before .before .before .entries .given
@@ -98,7 +98,7 @@ same-length-13 c = c .before .out .given
 returns-3 : tie.Need-returns-3
 returns-3 c =
     let a = c .before .before .before .before .before .before .before .before .before .before .before .before .before .before .before .before .before .before .before .before .before .before .before .before .before .before .before .before .before .before .before .before .before .before .before .before .before .before .before .before .before .before .before .before .before .before .before .args in
-    poll-done (a .now) (stored (a .session) (a .entries .now) (a .payloads .now) (a .gaps .now) (a .remembered .now)) (a .out .now) _ (early (c .before .before .before .before .before .before .before .before .before .before .before .before .before .before .before .before .before .before .before .before .before .before .before .before .before .before .before .before .before .before .before .before .before .before .before)) (c .before .before .before .before .before .before .before .before .before .before .before .before .before .before .before .before .before .before .before .before .before .before .before .before .before .before .before .before .before .before .before .before .before .before .if1 .left) _ (c .before .before .before .before .before .before .before .before .before .before .before .before .before .before .before .before .before .before .before .before .before .before .before .before .before .before .before .before .before .before .before .due-at .ensures (a .payloads .now) (a .remembered .now)) _ (c .before .before .before .before .before .before .before .before .before .before .before .before .before .before .before .before .before .before .before .before .before .before .before .before .before .before .before .before .before .before .count-refusal .ensures) (c .before .before .before .before .before .before .before .before .before .before .before .before .before .before .before .before .before .before .before .before .before .before .before .before .before .before .before .before .before .if2 .left) _ (c .before .before .before .before .before .before .before .before .before .before .before .before .before .before .before .before .before .before .before .before .before .before .before .before .settle .ensures) _ (c .before .before .before .before .before .before .before .before .before .before .accept .ensures)
+    poll-done (a .now) (stored (a .session) (a .entries .now) (a .payloads .now) (a .gaps .now) (a .remembered .now)) (a .out .now) _ (early (c .before .before .before .before .before .before .before .before .before .before .before .before .before .before .before .before .before .before .before .before .before .before .before .before .before .before .before .before .before .before .before .before .before .before .before)) (c .before .before .before .before .before .before .before .before .before .before .before .before .before .before .before .before .before .before .before .before .before .before .before .before .before .before .before .before .before .before .before .before .before .before .if1 .left) _ (c .before .before .before .before .before .before .before .before .before .before .before .before .before .before .before .before .before .before .before .before .before .before .before .before .before .before .before .before .before .before .before .effect-at .ensures (a .payloads .now) (a .remembered .now)) _ (c .before .before .before .before .before .before .before .before .before .before .before .before .before .before .before .before .before .before .before .before .before .before .before .before .before .before .before .before .before .before .count-refusal .ensures) (c .before .before .before .before .before .before .before .before .before .before .before .before .before .before .before .before .before .before .before .before .before .before .before .before .before .before .before .before .before .if2 .left) _ (c .before .before .before .before .before .before .before .before .before .before .before .before .before .before .before .before .before .before .before .before .before .before .before .before .settle .ensures) _ (c .before .before .before .before .before .before .before .before .before .before .accept .ensures)
 
 pub poll-spec : {M : Type 1} → statement M
-poll-spec = tie.close (tie.spec session-refusal-requires output-and-clock-refusal-requires or-else-requires same-length same-length-2 same-length-3 same-length-4 returns due-at-requires count-refusal-requires same-length-5 same-length-6 same-length-7 same-length-8 returns-2 settle-requires accept-requires same-length-9 same-length-10 same-length-11 same-length-12 same-length-13 returns-3)
+poll-spec = tie.close (tie.spec session-refusal-requires output-and-clock-refusal-requires or-else-requires same-length same-length-2 same-length-3 same-length-4 returns effect-at-requires count-refusal-requires same-length-5 same-length-6 same-length-7 same-length-8 returns-2 settle-requires accept-requires same-length-9 same-length-10 same-length-11 same-length-12 same-length-13 returns-3)

@@ -1,9 +1,9 @@
--- `gaps_full` meets its contract: the definition's two tests.
+-- `room_refusal` meets its contract: the definition's two tests.
 use Rattle.session.proofs.Counts.{step-small, step-fits, step-over}
 use native.Mathlib.Omega.{arith}
 use borrow.Author.Needs.{needs}
-use Rattle.session.proofs.push.gaps_full.Statement.{statement}
-use Rattle.session.proofs.push.gaps_full.Tie as tie
+use Rattle.session.proofs.push.room_refusal.Statement.{statement}
+use Rattle.session.proofs.push.room_refusal.Tie as tie
 
 returns : tie.Need-returns
 returns c = step-small _ _ _ (c .if1 .taken)
@@ -20,5 +20,5 @@ returns-2 c = let s = c .before .before in step-over (s .args .max-gaps) (s .arg
 returns-3 : tie.Need-returns-3
 returns-3 c = let s = c .before .before in step-fits (s .args .max-gaps) (s .args .opened) (s .args .s) (omega arith)
 
-pub gaps-full-spec : {M : Type 1} → statement M
-gaps-full-spec = tie.close (tie.spec returns sub-left sub-if2 returns-2 returns-3)
+pub room-refusal-spec : {M : Type 1} → statement M
+room-refusal-spec = tie.close (tie.spec returns sub-left sub-if2 returns-2 returns-3)

@@ -1,10 +1,10 @@
--- `gaps` meets its contract, arm by arm.
+-- `gaps_refusal` meets its contract, arm by arm.
 use mathlib.Core.Path.{_∙_}
 use Rattle.session.specs.Place.{place}
 use Rattle.model.specs.Table.{tooManyGaps, refuseIf}
 use borrow.Author.Needs.{needs}
-use Rattle.session.proofs.push.gaps.Statement.{statement}
-use Rattle.session.proofs.push.gaps.Tie as tie
+use Rattle.session.proofs.push.gaps_refusal.Statement.{statement}
+use Rattle.session.proofs.push.gaps_refusal.Tie as tie
 
 enum-known-place : tie.Need-enum-known-place
 enum-known-place c = search needs
@@ -12,8 +12,8 @@ enum-known-place c = search needs
 saturating-sub-requires : tie.Need-saturating-sub-requires
 saturating-sub-requires c κs = search needs
 
-gaps-full-requires : tie.Need-gaps-full-requires
-gaps-full-requires c κs = search needs
+room-refusal-requires : tie.Need-room-refusal-requires
+room-refusal-requires c κs = search needs
 
 enum-told : tie.Need-enum-told
 enum-told c = search needs
@@ -29,7 +29,7 @@ enum-told-4 c = search needs
 
 returns : tie.Need-returns
 unfolding tooManyGaps place
-returns c = rw (c .before .before .before .place .given .1) (c .gaps-full .ensures ∙ rw (c .before .saturating-sub .ensures))
+returns c = rw (c .before .before .before .place .given .1) (c .room-refusal .ensures ∙ rw (c .before .saturating-sub .ensures))
 
 returns-2 : tie.Need-returns-2
 unfolding tooManyGaps place refuseIf
@@ -47,13 +47,13 @@ returns-5 : tie.Need-returns-5
 unfolding tooManyGaps place refuseIf
 returns-5 c = cc
 
-pub gaps-spec : {M : Type 1} → statement M
-gaps-spec =
+pub gaps-refusal-spec : {M : Type 1} → statement M
+gaps-refusal-spec =
     tie.close
     (tie.spec
     enum-known-place
     saturating-sub-requires
-    gaps-full-requires
+    room-refusal-requires
     enum-told
     enum-told-2
     enum-told-3

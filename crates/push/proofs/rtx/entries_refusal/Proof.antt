@@ -1,10 +1,10 @@
--- `entries_full`, arm by arm.
+-- `entries_refusal`, arm by arm.
 use Rattle.session.specs.Place.{fate}
 use Rattle.model.specs.Table.{refuseIf, noPlace}
 use borrow.Author.Tests.{le-leb, lt-leb}
 use borrow.Author.Needs.{needs}
-use Rattle.push.proofs.rtx.entries_full.Statement.{statement}
-use Rattle.push.proofs.rtx.entries_full.Tie as tie
+use Rattle.push.proofs.rtx.entries_refusal.Statement.{statement}
+use Rattle.push.proofs.rtx.entries_refusal.Tie as tie
 
 enum-told : tie.Need-enum-told
 enum-told c = search needs
@@ -31,6 +31,6 @@ returns-4 : tie.Need-returns-4
 unfolding fate noPlace refuseIf
 returns-4 c = rw (c .before .enum-told3 .given .1, lt-leb _ _ (c .if1 .left))
 
-pub entries-full-spec : {M : Type 1} → statement M
-entries-full-spec =
+pub entries-refusal-spec : {M : Type 1} → statement M
+entries-refusal-spec =
     tie.close (tie.spec enum-told enum-told-2 enum-told-3 returns returns-2 returns-3 returns-4)

@@ -1,4 +1,4 @@
--- `due_at` meets its contract: what `poll` does, counted part by part.
+-- `effect_at` meets its contract: what `poll` does, counted part by part.
 use mathlib.Core.Path.{_≡_, sym, ap, _∙_}
 use mathlib.Core.List.{[], _∷_}
 use Prim.Native.Nat.{_≤_}
@@ -12,8 +12,8 @@ use Rattle.model.specs.Contract.{stored}
 use Rattle.poll.proofs.Fronts.{hands-some, first-is}
 use Rattle.poll.proofs.Losing.{due-none, due-some}
 use borrow.Author.Needs.{needs}
-use Rattle.poll.proofs.due_at.Statement.{statement}
-use Rattle.poll.proofs.due_at.Tie as tie
+use Rattle.poll.proofs.effect_at.Statement.{statement}
+use Rattle.poll.proofs.effect_at.Tie as tie
 
 given-up-requires : tie.Need-given-up-requires
 given-up-requires c κs = search needs
@@ -49,5 +49,5 @@ returns-2 c payloads remembered =
     let first = first-is (a .entries .now) payloads (a .s .entries) (some (c .before .before)) ∙ ap (λ (e : Entry). e ∷ []) (c .before .read .ensures (take PAYLOAD-BYTES payloads)) in
     due-some (a .instant) (parse m) _ _ _ _ (c .before .before .before .before .given-up .ensures) (c .before .before .before .goes-out .ensures payloads) (not-false _ (c .before .before .if1 .left)) first (c .lost-below .ensures)
 
-pub due-at-spec : {M : Type 1} → statement M
-due-at-spec = tie.close (tie.spec given-up-requires goes-out-requires returns read-requires lost-below-requires returns-2)
+pub effect-at-spec : {M : Type 1} → statement M
+effect-at-spec = tie.close (tie.spec given-up-requires goes-out-requires returns read-requires lost-below-requires returns-2)
