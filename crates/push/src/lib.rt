@@ -2,35 +2,30 @@
 ghost use mathlib.Core.Path.{_≡_};
 ghost use mathlib.Core.Bool.{true};
 ghost use mathlib.Core.List.{List, []};
-ghost use Prim.Native.Nat.{ℕ, _+_, _*_, _-_, _≤_, _<_};
+ghost use Prim.Native.Nat.{ℕ, _+_, _≤_, _<_};
 ghost use lib.ListN.{length};
-ghost use Rattle.words.specs.Blocks.{laid};
-ghost use Rattle.words.specs.Order.{ascends};
-ghost use Rattle.model.specs.Records as Records;
 ghost use Rattle.model.specs.Rules as Rules;
 ghost use Rattle.model.specs.Push as Push;
-ghost use Rattle.model.specs.Storage.{GAP-WORDS, gapWords, gapsOf, parse, write};
+ghost use Rattle.model.specs.Storage.{parse, write};
 ghost use Rattle.durations.specs.Seconds.{largest};
 ghost use Rattle.rtp_packet.specs.Datagram.{LARGEST-PAYLOAD};
 ghost use Rattle.model.specs.Calls.{media, placedAnswer};
 ghost use Rattle.model.specs.Table.{atDepth, sessionSound, packetRefusal};
-ghost use Rattle.packet_gaps.specs.Gaps.{GapsIn};
 ghost use Rattle.entries.specs.Entries.{entry};
 ghost use Rattle.session.specs.Place as Spec;
 ghost use Rattle.push.specs.Answers.{mediaAnswer};
 ghost use Rattle.model.specs.Contract.{stored, before, after, Does};
-ghost use Rattle.push.specs.Media.{Takes, Fit, didPacket};
+ghost use Rattle.push.specs.Media.{Fit, didPacket};
 use entries::Entry;
-use model::LastReceived;
 use model::Queue;
 use model::Session;
-use rtp::ExtendedSequenceNumber;
 use rtp::SequenceNumber;
 use rtp::opt::Opt;
 use rtp_packet::Parsed;
 use rtp_packet::RtpPacket;
 use session::push::Place;
 
+mod place;
 pub mod rtx;
 
 pub enum MediaAnswer {
@@ -52,100 +47,6 @@ fn refused(number: u64, session: Session) -> Pushed
         answer: MediaAnswer::Refused(number),
         session,
     }
-}
-
-// 001's MAX_GAP_SIZE.
-const MAX_GAP_SIZE: u64 = 1000;
-
-// Where the number x stands, after the highest so far, h.
-fn place_after(
-    h: ExtendedSequenceNumber,
-    gaps: &[u64],
-    n: usize,
-    x: ExtendedSequenceNumber,
-) -> Place
-    requires { ⌜ GAP-WORDS * n ≤ length (now gaps) ⌝ }
-    requires { ⌜ ascends (Records.gapNumbers (gapsOf (now gaps) n)) ≡ true ⌝ }
-    ensures { λ r. ⌜ Spec.place r ≡ Rules.placeOf (Opt.Some (h .0)) (gapsOf (now (gaps .entry)) n) (x .0) ⌝ }
-{
-    if h.0 < x.0 {
-        if x.0 - h.0 <= MAX_GAP_SIZE {
-            return Place::Near(h);
-        }
-        return Place::Far(h);
-    }
-    if packet_gaps::contains(gaps, n, x) {
-        return Place::Fills;
-    }
-    Place::Other
-}
-
-fn place_of(last: LastReceived, gaps: &[u64], n: usize, x: ExtendedSequenceNumber) -> Place
-    requires { ⌜ GAP-WORDS * n ≤ length (now gaps) ⌝ }
-    requires { ⌜ ascends (Records.gapNumbers (gapsOf (now gaps) n)) ≡ true ⌝ }
-    ensures { λ r. ⌜ Spec.place r ≡ Rules.placeOf (Records.highestOf last) (gapsOf (now (gaps .entry)) n) (x .0) ⌝ }
-{
-    match last {
-        LastReceived::None => Place::First,
-        LastReceived::Some(r) => place_after(r.number, gaps, n, x),
-    }
-}
-
-// Where a media packet's number stands.
-fn media_place(q: Queue, gaps: &[u64], n: usize, x: ExtendedSequenceNumber) -> Place
-    requires { ⌜ GAP-WORDS * n ≤ length (now gaps) ⌝ }
-    requires { ⌜ ascends (Records.gapNumbers (gapsOf (now gaps) n)) ≡ true ⌝ }
-    ensures { λ r. ⌜ Spec.place r ≡ Push.placeIn q (gapsOf (now (gaps .entry)) n) (x .0) ⌝ }
-{
-    if session::passed(q, x) {
-        return Place::Other;
-    }
-    let last = q.last;
-    place_of(last, gaps, n, x)
-}
-
-// 001's `report_received`: the gaps after a packet at this place; the answer is how many there are.
-fn gaps_after(
-    gaps: &mut [u64],
-    n: usize,
-    place: Place,
-    x: ExtendedSequenceNumber,
-    instant: u64,
-) -> usize
-    requires { ⌜ GapsIn (now gaps) n ⌝ }
-    requires { ⌜ ascends (Records.gapNumbers (gapsOf (now gaps) n)) ≡ true ⌝ }
-    requires { ⌜ Takes (now gaps) n (x .0) (Spec.place place) ⌝ }
-    ensures { λ r. ⌜ r ≡ length (Rules.gapsAfter instant (x .0) (Spec.place place) (gapsOf (now (gaps .entry)) n)) ⌝ }
-    ensures { λ _. ⌜ now (gaps .exit) ≡ laid gapWords (length (now (gaps .entry))) (Rules.gapsAfter instant (x .0) (Spec.place place) (gapsOf (now (gaps .entry)) n)) ⌝ }
-{
-    match place {
-        Place::Near(h) => {
-            packet_gaps::open_between(gaps, n, h, x, instant);
-            n + (x.0 - h.0 - 1) as usize
-        }
-        Place::Far(_) => {
-            packet_gaps::clear(gaps);
-            0
-        }
-        Place::Fills => {
-            packet_gaps::remove(gaps, n, x);
-            n - 1
-        }
-        Place::First => n,
-        Place::Other => n,
-    }
-}
-
-// Leaves the gaps from the number x on; the answer is how many there are.
-fn gaps_from(gaps: &mut [u64], n: usize, x: ExtendedSequenceNumber) -> usize
-    requires { ⌜ GapsIn (now gaps) n ⌝ }
-    requires { ⌜ ascends (Records.gapNumbers (gapsOf (now gaps) n)) ≡ true ⌝ }
-    ensures { λ r. ⌜ r ≡ length (Rules.gapsFrom (x .0) (gapsOf (now (gaps .entry)) n)) ⌝ }
-    ensures { λ _. ⌜ now (gaps .exit) ≡ laid gapWords (length (now (gaps .entry))) (Rules.gapsFrom (x .0) (gapsOf (now (gaps .entry)) n)) ⌝ }
-{
-    let k = packet_gaps::count_below(gaps, n, x);
-    packet_gaps::drain(gaps, n, k);
-    n - k
 }
 
 // The entry that a packet becomes, without its payload; the number is the packet's own, or the original one of a repair.
@@ -201,7 +102,7 @@ fn packet_refusal(s: Session, e: Entry, place: Place) -> u64
     refusals::or_else(counts, gaps)
 }
 
-// Queues a packet that finds the queue below its depth.
+// Queues a packet that finds the queue below its depth. A slice that the code leaves alone is lent so that the contract can say so.
 fn insert_packet(
     s: Session,
     entries: &mut [u64],
@@ -221,7 +122,7 @@ fn insert_packet(
     let size = e.size as u64;
     let queue = session::push::queued(s.queue, instant, e.timestamp, e.number, size, place);
     entries::insert(entries, payloads, n, e, payload);
-    let open = gaps_after(gaps, s.gaps, place, e.number, instant);
+    let open = place::gaps_after(gaps, s.gaps, place, e.number, instant);
     Session {
         queue,
         entries: n + 1,
@@ -250,8 +151,8 @@ fn push_out_packet(
     let size = e.size as u64;
     let queued = session::push::queued(s.queue, instant, e.timestamp, e.number, size, place);
     let front = entries::push_out(entries, payloads, n, e, payload);
-    let open = gaps_after(gaps, s.gaps, place, e.number, instant);
-    let left = gaps_from(gaps, open, front);
+    let open = place::gaps_after(gaps, s.gaps, place, e.number, instant);
+    let left = place::gaps_from(gaps, open, front);
     let queue = session::push::pushed_out(queued, front);
     Session {
         queue,
@@ -358,7 +259,7 @@ fn push_packet(
     let q = s.queue;
     let arrival = Opt::Some(instant);
     let e = extended_entry(q, arrival, p, p.sequence_number, payload.len());
-    let place = media_place(q, gaps, s.gaps, e.number);
+    let place = place::media_place(q, gaps, s.gaps, e.number);
     let refusal = packet_refusal(s, e, place);
     if refusal != 0 {
         return refused(refusal, s);

@@ -8,8 +8,8 @@ use mathlib.Core.Path.{_≡_, refl, sym}
 use lib.ListN.{length}
 use Rattle.model.specs.Storage.{gapsOf}
 use borrow.Author.Needs.{needs}
-use Rattle.push.proofs.gaps_after.Statement.{statement}
-use Rattle.push.proofs.gaps_after.Tie as tie
+use Rattle.push.proofs.place.gaps_after.Statement.{statement}
+use Rattle.push.proofs.place.gaps_after.Tie as tie
 
 enum-known-place : tie.Need-enum-known-place
 enum-known-place c = search needs

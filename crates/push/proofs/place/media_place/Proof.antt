@@ -2,8 +2,8 @@
 use Rattle.model.specs.Push.{placeIn}
 use Rattle.session.specs.Place.{place}
 use borrow.Author.Needs.{needs}
-use Rattle.push.proofs.media_place.Statement.{statement}
-use Rattle.push.proofs.media_place.Tie as tie
+use Rattle.push.proofs.place.media_place.Statement.{statement}
+use Rattle.push.proofs.place.media_place.Tie as tie
 
 passed-requires : tie.Need-passed-requires
 passed-requires c κs = search needs

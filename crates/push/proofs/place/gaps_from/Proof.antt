@@ -7,8 +7,8 @@ use Prim.Native.Nat.{ℕ}
 use native.Mathlib.Omega.{arith}
 use mathlib.Core.Path.{sym, ap, _∙_}
 use borrow.Author.Needs.{needs}
-use Rattle.push.proofs.gaps_from.Statement.{statement}
-use Rattle.push.proofs.gaps_from.Tie as tie
+use Rattle.push.proofs.place.gaps_from.Statement.{statement}
+use Rattle.push.proofs.place.gaps_from.Tie as tie
 
 count-below-requires : tie.Need-count-below-requires
 count-below-requires c κs = search needs

@@ -3,8 +3,8 @@ use Rattle.session.specs.Place.{place}
 use Rattle.model.specs.Rules.{placeOf}
 use Rattle.model.specs.Records.{highestOf}
 use borrow.Author.Needs.{needs}
-use Rattle.push.proofs.place_of.Statement.{statement}
-use Rattle.push.proofs.place_of.Tie as tie
+use Rattle.push.proofs.place.place_of.Statement.{statement}
+use Rattle.push.proofs.place.place_of.Tie as tie
 
 enum-told : tie.Need-enum-told
 enum-told c = search needs

@@ -3,8 +3,8 @@ use Rattle.session.specs.Place.{place}
 use Rattle.model.specs.Rules.{placeOf}
 use borrow.Author.Tests.{lt-ltb, le-ltb, le-leb, lt-leb}
 use borrow.Author.Needs.{needs}
-use Rattle.push.proofs.place_after.Statement.{statement}
-use Rattle.push.proofs.place_after.Tie as tie
+use Rattle.push.proofs.place.place_after.Statement.{statement}
+use Rattle.push.proofs.place.place_after.Tie as tie
 
 sub-if2 : tie.Need-sub-if2
 sub-if2 c = search needs
