@@ -19,10 +19,10 @@ use Rattle.model.specs.Table.{refusal, openingRefusal}
 use Rattle.model.specs.Did.{Done, did, accepted, turnedBack, opened}
 use Rattle.ffi_words.specs.declared.ConfigWords.{ConfigWords}
 use Rattle.ffi_words.specs.declared.SessionWords.{SessionWords}
-use Rattle.ffi_words.specs.Words.{configReadable, readable, configOf, sessionOf, wordsOf}
+use Rattle.ffi_words.specs.Words.{configReadable, readable, configOf, wordsOf}
 use Rattle.ffi_words.specs.Told.{refusalIn, sessionAfter, openTold}
 use Rattle.ffi_words.proofs.Kept.{words-kept}
-use Rattle.ffi.specs.Exported.{told, called, words, openedBy, openedWords, Follows}
+use Rattle.ffi.specs.Exported.{standsFor, told, called, words, openedBy, openedWords, ReadAs, Follows}
 
 -- ---- the answer of an accepted call is no refusal
 
@@ -41,7 +41,7 @@ unfolding refusalIn nackAnswer
 no-refusal-nack zero = refl
 no-refusal-nack (suc n) = refl
 
-no-refusal : (c : Call) (s : State) → refusalIn (answered c s) ≡ None
+pub no-refusal : (c : Call) (s : State) → refusalIn (answered c s) ≡ None
 unfolding answered refusalIn
 no-refusal (Calls.media now d) s = one-of-two (waits (mediaPlace s (mediaEntry now d (s .queue) .number)))
 no-refusal (Calls.repair now d) s = refl
@@ -54,29 +54,26 @@ no-refusal Calls.highestReceived s = refl
 
 -- ---- what comes back stands for the session that is left
 
-abbrev Stands : SessionWords → Storage → Stored → Type 0
-Stands w t m = (readable w ≡ true) × (record { session = sessionOf w; storage = t } ≡ m)
-
-written : (m : Stored) → Stands (wordsOf (m .session)) (m .storage) m
+written : (m : Stored) → ReadAs (wordsOf (m .session)) (m .storage) m
 written m = (words-kept .stays-readable (m .session), ap (λ (s : Session). record { session = s; storage = m .storage }) (words-kept .same (m .session)))
 
 module _ (c : Call) (w : SessionWords) (t : Storage) (r : readable w ≡ true) where
   abbrev m : Stored
-  m = record { session = sessionOf w; storage = t }
+  m = standsFor w t
 
   abbrev done : Bool → Done
   done b = cond b (accepted c (parse m)) (turnedBack (refusal c m) c m)
 
-  stands : (b : Bool) → Stands (told words w (done b) .value) (told words w (done b) .storage) (done b .stored)
+  stands : (b : Bool) → ReadAs (told words w (done b) .value) (told words w (done b) .storage) (done b .stored)
   unfolding told accepted turnedBack sessionAfter refusalIn
   stands false = (r, refl)
   stands true = rw (no-refusal c (parse m)) (written (write (taken c (parse m))))
 
-  pub at-call : Stands (called words c w t .value) (called words c w t .storage) (did c m .stored)
+  pub at-call : ReadAs (called words c w t .value) (called words c w t .storage) (did c m .stored)
   unfolding called did
   at-call = rw r (stands (eqb (refusal c m) 0))
 
-at-opening : (c : ConfigWords) (t : Storage) → configReadable c ≡ true → openingRefusal (configOf c) t ≡ 0 → Stands (openedWords c t .value .session) (openedWords c t .storage) (write (newState (configOf c)))
+at-opening : (c : ConfigWords) (t : Storage) → configReadable c ≡ true → openingRefusal (configOf c) t ≡ 0 → ReadAs (openedWords c t .value .session) (openedWords c t .storage) (write (newState (configOf c)))
 unfolding openedWords openedBy opened openTold
 at-opening c t r z = rw (r, z) (written (write (newState (configOf c))))
 

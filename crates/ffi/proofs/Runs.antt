@@ -3,22 +3,30 @@
 use mathlib.Core.Path.{_≡_, refl, sym, ap, _∙_}
 use mathlib.Core.Bool.{Bool, true, false, cond}
 use mathlib.Core.List.{List, [], _∷_, _++_}
-use Prim.Native.Nat.{ℕ}
+use Prim.Native.Nat.{ℕ, zero, suc}
 use native.Mathlib.Omega.{arith}
 use lib.Dec.{eqb}
 use borrow.Author.Tests.{eqb-true}
 use Rattle.refusals.specs.Refusals.{SETTINGS}
+use Rattle.stats.specs.declared.OptRtxStats.{OptRtxStats}
+use Rattle.stats.specs.declared.OptRtxStats.the-variants as OptRtxStats
+use Rattle.model.specs.declared.Queue.{Queue}
 use Rattle.model.specs.declared.Session.{Session}
-use Rattle.model.specs.Records.{newState}
+use Rattle.model.specs.Records.{Entry, State, newState}
+use Rattle.model.specs.Rules.{waits}
+use Rattle.model.specs.Push.{mediaEntry, mediaPlace}
+use Rattle.model.specs.Poll.{goingOut}
 use Rattle.model.specs.Storage.{Storage, Stored, parse, write}
-use Rattle.model.specs.Calls.{Answer, Call, taken}
+use Rattle.model.specs.Calls as Calls
+use Rattle.model.specs.Calls.{Answer, Call, poll, taken, handed, nackAnswer, answered}
 use Rattle.model.specs.Table.{refusal, openingRefusal}
 use Rattle.model.specs.Did as Did
 use Rattle.model.specs.Did.{Done, did, accepted, turnedBack, opened}
 use Rattle.model.specs.Contract.{Opens, Does}
 use Rattle.model.proofs.Laid.{parse-entries, parse-gaps, parse-remembered}
-use Rattle.book.specs.Book.{empty, enter}
-use Rattle.book.specs.Claim.{hear, given, Run}
+use Rattle.book.specs.Book as B
+use Rattle.book.specs.Book.{Heard, empty}
+use Rattle.book.specs.Claim.{hear, given, Run, call}
 use Rattle.book.specs.Code as Code
 use Rattle.book.proofs.Theorem.{every-run}
 use Rattle.ffi_words.specs.declared.ConfigWords.{ConfigWords}
@@ -27,15 +35,14 @@ use Rattle.ffi_words.specs.declared.answers.Opened.{Opened}
 use Rattle.ffi_words.specs.declared.answers.Pushed.{Pushed}
 use Rattle.ffi_words.specs.declared.answers.Polled.{Polled}
 use Rattle.ffi_words.specs.declared.answers.PolledNack.{PolledNack}
+use Rattle.ffi_words.specs.declared.answers.Timeout.{Timeout}
+use Rattle.ffi_words.specs.declared.answers.RtxStats.{RtxStats}
+use Rattle.ffi_words.specs.declared.answers.Highest.{Highest}
 use Rattle.ffi_words.specs.Words.{configReadable, readable, configOf, sessionOf}
-use Rattle.ffi_words.specs.Told.{openTold, pushed, polled, polledNack}
-use Rattle.ffi.specs.Exported.{Given, unread, told, called, Gives, alone, openedBy, openedWords, words}
-use Rattle.ffi.specs.Runs.{standsFor, Exported, push, push-rtx, polls, polls-nack, receive-timeout, nack-timeout, repair-figures, highest-number, MadeInWords, opening, further, EveryRunInWords}
-use Rattle.ffi.proofs.Follows.{follows}
-
--- The words v stand for the session that the call k leaves beside the storage u.
-abbrev Leaves : Call → Stored → SessionWords → Storage → Type 0
-Leaves k m v u = (readable v ≡ true) × (did k m .stored ≡ standsFor v u)
+use Rattle.ffi_words.specs.Told.{refusalIn, packetIn, optWords, valueOf, packetWords, statsWords, openTold, pushed, polled, polledNack, timeoutTold, statsTold, highestTold}
+use Rattle.ffi.specs.Exported.{standsFor, Given, unread, told, called, Gives, alone, openedBy, openedWords, words, ReadAs}
+use Rattle.ffi.specs.Runs.{heardIn, numbersIn, nextRun, Exported, push, push-rtx, polls, polls-nack, receive-timeout, nack-timeout, repair-figures, highest-number, MadeInWords, opening, further, EveryRunInWords}
+use Rattle.ffi.proofs.Follows.{no-refusal as no-refusal-in, follows}
 
 -- ---- calls that give words back
 
@@ -55,13 +62,12 @@ module _ {A : Type 0} (tell : Answer → SessionWords → A) (session : A → Se
   same-words false d = kept _ w
   same-words true d = kept _ _
 
-  gives-leaves : {v : SessionWords} {u : Storage} {r : A} {output : List ℕ} → readable w ≡ true → Gives tell k w t r u output → v ≡ session r → Leaves k (standsFor w t) v u
+  gives-leaves : {u : Storage} {r : A} {output : List ℕ} → readable w ≡ true → Gives tell k w t r u output → ReadAs (session r) u (did k (standsFor w t) .stored)
   unfolding called
-  gives-leaves {v} {u} readable-w g e =
-      let at = follows .at-call k w t readable-w in
-      let v-is : called words k w t .value ≡ v = sym (same-words (readable w) (did k (standsFor w t))) ∙ (ap (λ (x : Given A). session (x .value)) g ∙ sym e) in
+  gives-leaves {u} {r} readable-w g =
+      let v-is : called words k w t .value ≡ session r = sym (same-words (readable w) (did k (standsFor w t))) ∙ ap (λ (x : Given A). session (x .value)) g in
       let u-is : called words k w t .storage ≡ u = storage-is tell k w t g in
-      (rw (← v-is) (at .0), sym (at .1) ∙ rw (v-is, u-is))
+      rw (← v-is, ← u-is) (follows .at-call k w t readable-w)
 
 -- ---- calls that only read
 
@@ -75,24 +81,98 @@ module _ {A : Type 0} (tell : Answer → A) (k : Call) (reads : (m : Stored) →
   left-session false = refl
   left-session true = rw (reads (standsFor w t)) (same-session (standsFor w t))
 
-  read-leaves : {v : SessionWords} {u : Storage} {r : A} {output : List ℕ} → readable w ≡ true → Gives (alone tell) k w t r u output → v ≡ w → Leaves k (standsFor w t) v u
+  read-leaves : {u : Storage} {r : A} {output : List ℕ} → readable w ≡ true → Gives (alone tell) k w t r u output → ReadAs w u (did k (standsFor w t) .stored)
   unfolding did
-  read-leaves {v} {u} readable-w g e =
+  read-leaves {u} readable-w g =
       let m = standsFor w t in
       let u-is : did k m .stored .storage ≡ u = sym (ap (λ (x : Stored). x .storage) (follows .at-call k w t readable-w .1)) ∙ storage-is (alone tell) k w t g in
       let s-is : did k m .stored .session ≡ sessionOf w = left-session (eqb (refusal k m) 0) in
-      (rw e readable-w, rw e (ap (λ (s : Session). record { session = s; storage = did k m .stored .storage }) s-is ∙ ap (λ (y : Storage). standsFor w y) u-is))
+      (readable-w, sym (ap (λ (s : Session). record { session = s; storage = did k m .stored .storage }) s-is ∙ ap (λ (y : Storage). standsFor w y) u-is))
 
-exported-leaves : {w v : SessionWords} {t u : Storage} {k : Call} → readable w ≡ true → Exported w v t u k → Leaves k (standsFor w t) v u
+exported-leaves : {w v : SessionWords} {t u : Storage} {k : Call} {h : Heard} {ns : List ℕ} → readable w ≡ true → Exported w t k v u h ns → ReadAs v u (did k (standsFor w t) .stored)
 unfolding pushed polled polledNack taken
-exported-leaves {w} {t = t} r (push g e) = gives-leaves pushed (λ (p : Pushed). p .session) (λ a y. refl) _ w t r g e
-exported-leaves {w} {t = t} r (push-rtx g e) = gives-leaves pushed (λ (p : Pushed). p .session) (λ a y. refl) _ w t r g e
-exported-leaves {w} {t = t} r (polls g e) = gives-leaves polled (λ (p : Polled). p .session) (λ a y. refl) _ w t r g e
-exported-leaves {w} {t = t} r (polls-nack g e) = gives-leaves polledNack (λ (p : PolledNack). p .session) (λ a y. refl) _ w t r g e
-exported-leaves {w} {t = t} r (receive-timeout g e) = read-leaves _ _ (λ m. refl) w t r g e
-exported-leaves {w} {t = t} r (nack-timeout g e) = read-leaves _ _ (λ m. refl) w t r g e
-exported-leaves {w} {t = t} r (repair-figures g e) = read-leaves _ _ (λ m. refl) w t r g e
-exported-leaves {w} {t = t} r (highest-number g e) = read-leaves _ _ (λ m. refl) w t r g e
+exported-leaves {w} {t = t} r (push g) = gives-leaves pushed (λ (p : Pushed). p .session) (λ a y. refl) _ w t r g
+exported-leaves {w} {t = t} r (push-rtx g) = gives-leaves pushed (λ (p : Pushed). p .session) (λ a y. refl) _ w t r g
+exported-leaves {w} {t = t} r (polls g) = gives-leaves polled (λ (p : Polled). p .session) (λ a y. refl) _ w t r g
+exported-leaves {w} {t = t} r (polls-nack g) = gives-leaves polledNack (λ (p : PolledNack). p .session) (λ a y. refl) _ w t r g
+exported-leaves {w} {t = t} r (receive-timeout g) = read-leaves _ _ (λ m. refl) w t r g
+exported-leaves {w} {t = t} r (nack-timeout g) = read-leaves _ _ (λ m. refl) w t r g
+exported-leaves {w} {t = t} r (repair-figures g) = read-leaves _ _ (λ m. refl) w t r g
+exported-leaves {w} {t = t} r (highest-number g) = read-leaves _ _ (λ m. refl) w t r g
+
+-- ---- what the caller hears in the words is what the book hears of the queue's answer
+
+abbrev Hears : Answer → Heard → List ℕ → Type 0
+Hears a h ns = (hear a ≡ h) × (given a ≡ ns)
+
+module _ {A : Type 0} (tell : Answer → SessionWords → A) (k : Call) (w : SessionWords) (t : Storage) where
+  value-is : {u : Storage} {r : A} {output : List ℕ} → readable w ≡ true → Gives tell k w t r u output → r ≡ told tell w (did k (standsFor w t)) .value
+  unfolding called
+  value-is {r = r} readable-w g =
+      let v-is : r ≡ called tell k w t .value = sym (ap (λ (x : Given A). x .value) g) in
+      v-is ∙ rw readable-w
+
+-- an accepted call other than `poll` hands nothing out
+one-of-two : (b : Bool) → Hears (cond b Calls.queued Calls.dropped) (B.accepted false) []
+unfolding hear given
+one-of-two false = (refl, refl)
+one-of-two true = (refl, refl)
+
+media-hears : (now : ℕ) (d : List ℕ) (s : State) → Hears (answered (Calls.media now d) s) (B.accepted false) []
+unfolding answered
+media-hears now d s = one-of-two (waits (mediaPlace s (mediaEntry now d (s .queue) .number)))
+
+numbers-due : (n : ℕ) → Hears (nackAnswer n) (B.accepted false) []
+unfolding nackAnswer hear given
+numbers-due zero = (refl, refl)
+numbers-due (suc n) = (refl, refl)
+
+module _ (k : Call) (quiet : (s : State) → Hears (answered k s) (B.accepted false) []) (m : Stored) where
+  quiet-at : (b : Bool) → eqb (refusal k m) 0 ≡ b → let a = cond b (accepted k (parse m)) (turnedBack (refusal k m) k m) .answer in Hears a (heardIn (valueOf (refusalIn a)) 0) []
+  unfolding accepted turnedBack refusalIn optWords heardIn hear given
+  quiet-at false e = (rw e, refl)
+  quiet-at true e = rw (no-refusal-in k (parse m)) (quiet (parse m))
+
+  quiet-hears : Hears (did k m .answer) (heardIn (valueOf (refusalIn (did k m .answer))) 0) []
+  unfolding did
+  quiet-hears = quiet-at (eqb (refusal k m) 0) refl
+
+module _ {A : Type 0} (tell : Answer → SessionWords → A) (number : A → ℕ) (tells : (a : Answer) (w : SessionWords) → number (tell a w) ≡ valueOf (refusalIn a)) (k : Call) (quiet : (s : State) → Hears (answered k s) (B.accepted false) []) (w : SessionWords) (t : Storage) where
+  gives-hears : {u : Storage} {r : A} {output : List ℕ} → readable w ≡ true → Gives tell k w t r u output → Hears (did k (standsFor w t) .answer) (heardIn (number r) 0) []
+  unfolding told
+  gives-hears readable-w g = rw (value-is tell k w t readable-w g, tells) (quiet-hears k quiet (standsFor w t))
+
+-- `poll`
+packet-hears : (q : Queue) (l : List Entry) (w : SessionWords) → let r = polled (handed q l) w in Hears (handed q l) (heardIn (r .refusal) (r .«has_packet»)) (numbersIn r)
+unfolding handed polled refusalIn packetIn packetWords optWords heardIn numbersIn hear given
+packet-hears q [] w = (refl, refl)
+packet-hears q (e ∷ es) w = (refl, refl)
+
+module _ (now : ℕ) (out : List ℕ) (m : Stored) (w : SessionWords) where
+  poll-at : (b : Bool) → eqb (refusal (poll now out) m) 0 ≡ b → let a = cond b (accepted (poll now out) (parse m)) (turnedBack (refusal (poll now out) m) (poll now out) m) .answer in let r = polled a w in Hears a (heardIn (r .refusal) (r .«has_packet»)) (numbersIn r)
+  unfolding accepted answered turnedBack polled refusalIn packetIn optWords heardIn numbersIn hear given
+  poll-at false e = (rw e, refl)
+  poll-at true e = packet-hears (parse m .queue) (goingOut now (parse m) (parse m .entries)) w
+
+  poll-hears : let r = polled (did (poll now out) m .answer) w in Hears (did (poll now out) m .answer) (heardIn (r .refusal) (r .«has_packet»)) (numbersIn r)
+  unfolding did
+  poll-hears = poll-at (eqb (refusal (poll now out) m) 0) refl
+
+stats-number : (n : ℕ) (f : OptRtxStats) → statsWords n f .refusal ≡ n
+unfolding statsWords
+stats-number n OptRtxStats.None = refl
+stats-number n (OptRtxStats.Some f) = refl
+
+exported-hears : {w v : SessionWords} {t u : Storage} {k : Call} {h : Heard} {ns : List ℕ} → readable w ≡ true → Exported w t k v u h ns → Hears (did k (standsFor w t) .answer) h ns
+unfolding pushed polledNack timeoutTold statsTold highestTold answered hear given told
+exported-hears {w} {t = t} r (push g) = gives-hears pushed (λ (p : Pushed). p .refusal) (λ a y. refl) _ (media-hears _ _) w t r g
+exported-hears {w} {t = t} r (push-rtx g) = gives-hears pushed (λ (p : Pushed). p .refusal) (λ a y. refl) _ (λ s. (refl, refl)) w t r g
+exported-hears {w} {t = t} r (polls g) = rw (value-is polled _ w t r g) (poll-hears _ _ (standsFor w t) _)
+exported-hears {w} {t = t} r (polls-nack g) = gives-hears polledNack (λ (p : PolledNack). p .refusal) (λ a y. refl) _ (λ s. numbers-due _) w t r g
+exported-hears {w} {t = t} r (receive-timeout g) = gives-hears (alone timeoutTold) (λ (p : Timeout). p .refusal) (λ a y. refl) _ (λ s. (refl, refl)) w t r g
+exported-hears {w} {t = t} r (nack-timeout g) = gives-hears (alone timeoutTold) (λ (p : Timeout). p .refusal) (λ a y. refl) _ (λ s. (refl, refl)) w t r g
+exported-hears {w} {t = t} r (repair-figures g) = gives-hears (alone statsTold) (λ (p : RtxStats). p .refusal) (λ a y. stats-number _ _) _ (λ s. (refl, refl)) w t r g
+exported-hears {w} {t = t} r (highest-number g) = gives-hears (alone highestTold) (λ (p : Highest). p .refusal) (λ a y. refl) _ (λ s. (refl, refl)) w t r g
 
 -- ---- the opening
 
@@ -133,15 +213,22 @@ at-opening : {c : ConfigWords} (t : Storage) {u : Storage} {r : Opened} → open
     → Stands c [] (r .session) (record { stored = standsFor (r .session) u; book = empty; returned = [] })
 at-opening {c} t e z = let o = opens c t e z in record { made = Code.opening t (o .1); readable-words = o .0; stored-is = refl }
 
-module _ {c : ConfigWords} {ks : List Call} {w : SessionWords} {x : Run} (k : Call) {v : SessionWords} {u : Storage} (s : Stands c ks w x) (e : Exported w v (x .stored .storage) u k) where
+module _ {c : ConfigWords} {ks : List Call} {w v : SessionWords} {u : Storage} {h : Heard} {ns : List ℕ} {x : Run} (k : Call) (s : Stands c ks w x) (e : Exported w (x .stored .storage) k v u h ns) where
   left : did k (x .stored) .stored ≡ standsFor v u
-  left = rw (s .stored-is) (exported-leaves (s .readable-words) e .1)
+  left = rw (s .stored-is) (sym (exported-leaves (s .readable-words) e .1))
+
+  heard : Hears (did k (x .stored) .answer) h ns
+  heard = rw (s .stored-is) (exported-hears (s .readable-words) e)
 
   does : Does k (x .stored) (did k (x .stored) .answer) (standsFor v u) (did k (x .stored) .output)
   does = ap (λ (y : Stored). record { answer = did k (x .stored) .answer; stored = y; output = did k (x .stored) .output }) left
 
-  at-call : Stands c (ks ++ (k ∷ [])) v (record { stored = standsFor v u; book = enter (configOf c) k (hear (did k (x .stored) .answer)) (x .book); returned = x .returned ++ given (did k (x .stored) .answer) })
-  at-call = record { made = Code.further k (s .made) does; readable-words = exported-leaves (s .readable-words) e .0; stored-is = refl }
+  at-call : Stands c (ks ++ (k ∷ [])) v (nextRun (configOf c) x k v u h ns)
+  at-call = record { made = rw (← heard .0, ← heard .1) (Code.further k (s .made) does); readable-words = exported-leaves (s .readable-words) e .0; stored-is = refl }
+
+  same-call : call (configOf c) x k ≡ nextRun (configOf c) x k v u h ns
+  unfolding call
+  same-call = rw (left, heard .0, heard .1)
 
 stands : {c : ConfigWords} {ks : List Call} {w : SessionWords} {x : Run} → MadeInWords c ks w x → Stands c ks w x
 stands (opening t e z) = at-opening t e z
@@ -152,4 +239,5 @@ every-run-in-words =
     record {
       holds = λ c ks w x m. every-run .holds (configOf c) ks x (stands m .made);
       steps = λ c ks w x k m. every-run .steps (configOf c) ks x k (stands m .made);
+      same = λ m e. same-call _ (stands m) e;
     }

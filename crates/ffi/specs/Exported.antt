@@ -11,7 +11,7 @@ use Rattle.model.specs.declared.Queue.{Queue}
 use Rattle.model.specs.Rules.{MAX-LOST-NACKED}
 use Rattle.model.specs.Valid.{queueSound}
 use Rattle.model.specs.Records.{newState}
-use Rattle.model.specs.Storage.{Storage, write, ENTRY-WORDS, PAYLOAD-BYTES, GAP-WORDS, REMEMBERED-WORDS}
+use Rattle.model.specs.Storage.{Storage, Stored, write, ENTRY-WORDS, PAYLOAD-BYTES, GAP-WORDS, REMEMBERED-WORDS}
 use Rattle.model.specs.Calls as Calls
 use Rattle.model.specs.Calls.{Answer, Call, outputOf}
 use Rattle.model.specs.Table.{configValid, openingRefusal}
@@ -24,6 +24,10 @@ use Rattle.ffi_words.specs.declared.answers.Figures.{Figures}
 use Rattle.ffi_words.specs.declared.answers.Lengths.{Lengths}
 use Rattle.ffi_words.specs.Words.{configReadable, readable, configOf, queueOf, sessionOf}
 use Rattle.ffi_words.specs.Told.{back, openTold, noFigures}
+
+-- the session that the words stand for, beside the storage
+abbrev pub standsFor : SessionWords → Storage → Stored
+standsFor w t = record { session = sessionOf w; storage = t }
 
 -- what comes back: the answer in words, the lent storage and the lent output
 pub record Given (A : Type 0) : Type 0 where
@@ -41,7 +45,7 @@ module _ {A : Type 0} (tell : Answer → SessionWords → A) where
   told w d = record { value = back tell (d .answer) w (d .stored .session); storage = d .stored .storage; output = d .output }
 
   unfoldable pub called : Call → SessionWords → Storage → Given A
-  called c w t = cond (readable w) (told w (did c (record { session = sessionOf w; storage = t }))) (unread c w t)
+  called c w t = cond (readable w) (told w (did c (standsFor w t))) (unread c w t)
 
 -- The call c on these words and this storage gave r and left the storage and the output.
 abbrev pub Gives : {A : Type 0} → (Answer → SessionWords → A) → Call → SessionWords → Storage → A → Storage → List ℕ → Type 0
@@ -63,18 +67,32 @@ openedWords c t = openedBy (cond (configReadable c) (opened (configOf c) t) (rec
 abbrev pub words : Answer → SessionWords → SessionWords
 words a w = w
 
+-- These words are readable, and read beside this storage they are m.
+abbrev pub ReadAs : SessionWords → Storage → Stored → Type 0
+ReadAs w t m = (readable w ≡ true) × (standsFor w t ≡ m)
+
 -- Call after call on words is a run of the queue's calls: what comes back stands for the session that is left, refused or not.
 pub record Follows : Type 0 where
-  pub at-opening : (c : ConfigWords) (t : Storage) → configReadable c ≡ true → openingRefusal (configOf c) t ≡ 0 → let g = openedWords c t in (readable (g .value .session) ≡ true) × (record { session = sessionOf (g .value .session); storage = g .storage } ≡ write (newState (configOf c)))
-  pub at-call : (c : Call) (w : SessionWords) (t : Storage) → readable w ≡ true → let g = called words c w t in (readable (g .value) ≡ true) × (record { session = sessionOf (g .value); storage = g .storage } ≡ did c (record { session = sessionOf w; storage = t }) .stored)
+  pub at-opening : (c : ConfigWords) (t : Storage) → configReadable c ≡ true → openingRefusal (configOf c) t ≡ 0
+      → let g = openedWords c t in ReadAs (g .value .session) (g .storage) (write (newState (configOf c)))
+  pub at-call : (c : Call) (w : SessionWords) (t : Storage) → readable w ≡ true
+      → let g = called words c w t in ReadAs (g .value) (g .storage) (did c (standsFor w t) .stored)
 
 -- ---- two readings without storage
 
 unfoldable pub figuresOf : Queue → Figures
 figuresOf q =
-    record { refusal = 0; «packets_received» = q .counters .received; «packets_dropped» = q .counters .dropped; «packets_lost» = q .counters .lost; «bytes_received» = q .counters .bytes; jitter = jitterGet (q .jitter); loss = q .loss .loss }
+    record {
+      refusal = 0;
+      «packets_received» = q .counters .received;
+      «packets_dropped» = q .counters .dropped;
+      «packets_lost» = q .counters .lost;
+      «bytes_received» = q .counters .bytes;
+      jitter = jitterGet (q .jitter);
+      loss = q .loss .loss;
+    }
 
--- 16, but for the storage
+-- 16, but for the counts and the storage
 unfoldable pub queueFigures : Queue → Figures
 queueFigures q = cond (configValid (q .config) && queueSound q) (figuresOf q) (noFigures SESSION)
 
@@ -88,5 +106,11 @@ noLengths = record { refusal = SETTINGS; entries = 0; payloads = 0; gaps = 0; re
 unfoldable pub lengths : ℕ → ℕ → Lengths
 lengths entries gaps =
     cond (within 1 1024 entries && within 999 4096 gaps)
-    (record { refusal = 0; entries = ENTRY-WORDS * (2 * entries); payloads = PAYLOAD-BYTES * (2 * entries); gaps = GAP-WORDS * gaps; remembered = REMEMBERED-WORDS * MAX-LOST-NACKED })
+    (record {
+      refusal = 0;
+      entries = ENTRY-WORDS * (2 * entries);
+      payloads = PAYLOAD-BYTES * (2 * entries);
+      gaps = GAP-WORDS * gaps;
+      remembered = REMEMBERED-WORDS * MAX-LOST-NACKED;
+    })
     noLengths

@@ -1,12 +1,15 @@
--- Demand 3 through the boundary: exported calls made one after the other, on words that the caller keeps and storage that it lends.
+-- Demand 3 through the boundary: exported calls made one after the other, on words that the caller keeps and storage that it lends. The book
+-- hears what the caller is told, and `returned` has the numbers that it got.
 use mathlib.Core.Path.{_≡_}
+use mathlib.Core.Bool.{cond}
 use mathlib.Core.List.{List, [], _∷_, _++_}
 use Prim.Native.Nat.{ℕ}
-use Rattle.model.specs.Storage.{Storage, Stored}
+use lib.Dec.{eqb}
+use Rattle.model.specs.declared.Config.{Config}
+use Rattle.model.specs.Storage.{Storage}
 use Rattle.model.specs.Calls.{Call, media, repair, poll, pollNack, timeoutReceive, timeoutNack, rtxStats, highestReceived}
-use Rattle.model.specs.Did.{did}
-use Rattle.book.specs.Book.{empty, enter}
-use Rattle.book.specs.Claim.{hear, given, Run, Holds, Step}
+use Rattle.book.specs.Book.{Heard, refused, accepted, empty, enter}
+use Rattle.book.specs.Claim.{Run, call, Holds, Step}
 use Rattle.ffi_words.specs.declared.ConfigWords.{ConfigWords}
 use Rattle.ffi_words.specs.declared.SessionWords.{SessionWords}
 use Rattle.ffi_words.specs.declared.answers.Opened.{Opened}
@@ -16,33 +19,59 @@ use Rattle.ffi_words.specs.declared.answers.PolledNack.{PolledNack}
 use Rattle.ffi_words.specs.declared.answers.Timeout.{Timeout}
 use Rattle.ffi_words.specs.declared.answers.RtxStats.{RtxStats}
 use Rattle.ffi_words.specs.declared.answers.Highest.{Highest}
-use Rattle.ffi_words.specs.Words.{configOf, sessionOf}
+use Rattle.ffi_words.specs.Words.{configOf}
 use Rattle.ffi_words.specs.Told.{pushed, polled, polledNack, timeoutTold, statsTold, highestTold}
-use Rattle.ffi.specs.Exported.{Gives, alone, openedWords}
+use Rattle.ffi.specs.Exported.{standsFor, Gives, alone, openedWords}
 
--- the session that the words stand for, beside the storage
-abbrev pub standsFor : SessionWords → Storage → Stored
-standsFor w t = record { session = sessionOf w; storage = t }
+-- ---- what the caller is told, by the words alone
 
--- The contract of an exported call that left the words v and the storage u. One that only reads leaves the words with the caller.
-pub data Exported (w v : SessionWords) (t u : Storage) : Call → Type 0 where
-  push : {now : ℕ} {d : List ℕ} {r : Pushed} → Gives pushed (media now d) w t r u [] → v ≡ r .session → Exported w v t u (media now d)
-  push-rtx : {now : ℕ} {d : List ℕ} {r : Pushed} → Gives pushed (repair now d) w t r u [] → v ≡ r .session → Exported w v t u (repair now d)
-  polls : {now : ℕ} {out left : List ℕ} {r : Polled} → Gives polled (poll now out) w t r u left → v ≡ r .session → Exported w v t u (poll now out)
-  polls-nack : {now : ℕ} {out left : List ℕ} {r : PolledNack} → Gives polledNack (pollNack now out) w t r u left → v ≡ r .session → Exported w v t u (pollNack now out)
-  receive-timeout : {now : ℕ} {r : Timeout} → Gives (alone timeoutTold) (timeoutReceive now) w t r u [] → v ≡ w → Exported w v t u (timeoutReceive now)
-  nack-timeout : {now : ℕ} {r : Timeout} → Gives (alone timeoutTold) (timeoutNack now) w t r u [] → v ≡ w → Exported w v t u (timeoutNack now)
-  repair-figures : {r : RtxStats} → Gives (alone statsTold) rtxStats w t r u [] → v ≡ w → Exported w v t u rtxStats
-  highest-number : {r : Highest} → Gives (alone highestTold) highestReceived w t r u [] → v ≡ w → Exported w v t u highestReceived
+-- refused, or accepted and whether a packet was handed out: by the words `refusal` and `has_packet`, or 0 where a call has no such word
+unfoldable pub heardIn : (refusal packets : ℕ) → Heard
+heardIn refusal packets = cond (eqb refusal 0) (accepted (eqb packets 1)) refused
+
+-- the 16-bit number of the packet that `poll` handed out, if it did
+unfoldable pub numbersIn : Polled → List ℕ
+numbersIn r = cond (eqb (r .«has_packet») 1) (r .packet .«sequence_number» ∷ []) []
+
+-- ---- calls
+
+-- The contract of an exported call on the words w and the storage t, with what the caller then has: the words, the storage, what it heard and
+-- the numbers that it got. A call that only reads leaves the words with the caller.
+pub data Exported (w : SessionWords) (t : Storage) : Call → SessionWords → Storage → Heard → List ℕ → Type 0 where
+  push : {now : ℕ} {d : List ℕ} {r : Pushed} {u : Storage} → Gives pushed (media now d) w t r u []
+      → Exported w t (media now d) (r .session) u (heardIn (r .refusal) 0) []
+  push-rtx : {now : ℕ} {d : List ℕ} {r : Pushed} {u : Storage} → Gives pushed (repair now d) w t r u []
+      → Exported w t (repair now d) (r .session) u (heardIn (r .refusal) 0) []
+  polls : {now : ℕ} {out left : List ℕ} {r : Polled} {u : Storage} → Gives polled (poll now out) w t r u left
+      → Exported w t (poll now out) (r .session) u (heardIn (r .refusal) (r .«has_packet»)) (numbersIn r)
+  polls-nack : {now : ℕ} {out left : List ℕ} {r : PolledNack} {u : Storage} → Gives polledNack (pollNack now out) w t r u left
+      → Exported w t (pollNack now out) (r .session) u (heardIn (r .refusal) 0) []
+  receive-timeout : {now : ℕ} {r : Timeout} {u : Storage} → Gives (alone timeoutTold) (timeoutReceive now) w t r u []
+      → Exported w t (timeoutReceive now) w u (heardIn (r .refusal) 0) []
+  nack-timeout : {now : ℕ} {r : Timeout} {u : Storage} → Gives (alone timeoutTold) (timeoutNack now) w t r u []
+      → Exported w t (timeoutNack now) w u (heardIn (r .refusal) 0) []
+  repair-figures : {r : RtxStats} {u : Storage} → Gives (alone statsTold) rtxStats w t r u []
+      → Exported w t rtxStats w u (heardIn (r .refusal) 0) []
+  highest-number : {r : Highest} {u : Storage} → Gives (alone highestTold) highestReceived w t r u []
+      → Exported w t highestReceived w u (heardIn (r .refusal) 0) []
+
+-- x after one more call, by what the caller then has
+abbrev pub nextRun : Config → Run → Call → SessionWords → Storage → Heard → List ℕ → Run
+nextRun c x k w t heard numbers = record { stored = standsFor w t; book = enter c k heard (x .book); returned = x .returned ++ numbers }
 
 -- The calls ks were made on one newly opened session, each on the words and the storage that the last one left; w and the storage of x stand
 -- there now, with the book beside them.
 pub data MadeInWords (c : ConfigWords) : List Call → SessionWords → Run → Type 0 where
   opening : (t : Storage) {u : Storage} {r : Opened} → openedWords c t ≡ record { value = r; storage = u; output = [] } → r .refusal ≡ 0
       → MadeInWords c [] (r .session) (record { stored = standsFor (r .session) u; book = empty; returned = [] })
-  further : {ks : List Call} {w : SessionWords} {x : Run} (k : Call) {v : SessionWords} {u : Storage} → MadeInWords c ks w x → Exported w v (x .stored .storage) u k
-      → MadeInWords c (ks ++ (k ∷ [])) v (record { stored = standsFor v u; book = enter (configOf c) k (hear (did k (x .stored) .answer)) (x .book); returned = x .returned ++ given (did k (x .stored) .answer) })
+  further : {ks : List Call} {w v : SessionWords} {u : Storage} {heard : Heard} {numbers : List ℕ} {x : Run} (k : Call)
+      → MadeInWords c ks w x → Exported w (x .stored .storage) k v u heard numbers
+      → MadeInWords c (ks ++ (k ∷ [])) v (nextRun (configOf c) x k v u heard numbers)
 
 pub record EveryRunInWords : Type 0 where
   pub holds : (c : ConfigWords) (ks : List Call) (w : SessionWords) (x : Run) → MadeInWords c ks w x → Holds (configOf c) x
   pub steps : (c : ConfigWords) (ks : List Call) (w : SessionWords) (x : Run) (k : Call) → MadeInWords c ks w x → Step (configOf c) x k
+  -- what the queue's call leaves, of which `Step` speaks, is what the exported call leaves, with the book that heard the words
+  pub same : {c : ConfigWords} {ks : List Call} {w v : SessionWords} {u : Storage} {heard : Heard} {numbers : List ℕ} {x : Run} {k : Call}
+      → MadeInWords c ks w x → Exported w (x .stored .storage) k v u heard numbers
+      → call (configOf c) x k ≡ nextRun (configOf c) x k v u heard numbers
