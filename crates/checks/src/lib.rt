@@ -3,7 +3,7 @@ ghost use mathlib.Core.Path.{_≡_};
 ghost use Rattle.model.specs.Records as Records;
 ghost use Rattle.model.specs.Valid as Valid;
 ghost use Rattle.model.specs.Table as Table;
-use durations::LARGEST;
+use durations::fits;
 use model::Config;
 use model::Counters;
 use model::LastReceived;
@@ -14,7 +14,7 @@ use model::Queue;
 pub fn clock_refusal(q: Queue, now: u64) -> u64
     ensures { λ r. ⌜ r ≡ Table.clockRefusal q now ⌝ }
 {
-    if LARGEST < now {
+    if !fits(now) {
         return refusals::CLOCK;
     }
     if now < q.clock {
@@ -61,9 +61,7 @@ fn last_sound(clock: u64, last: LastReceived) -> bool
 {
     match last {
         LastReceived::None => true,
-        LastReceived::Some(r) => (r.instant <= clock)
-            & (r.timestamp.0 <= LARGEST)
-            & (r.number.0 <= LARGEST),
+        LastReceived::Some(r) => (r.instant <= clock) & fits(r.timestamp.0) & fits(r.number.0),
     }
 }
 
@@ -82,7 +80,7 @@ fn returned_sound(last: LastReceived, returned: LastReturned) -> bool
 fn counters_sound(c: Counters) -> bool
     ensures { λ r. ⌜ r ≡ Valid.countersSound c ⌝ }
 {
-    (c.dropped <= LARGEST) & (c.received <= LARGEST) & (c.bytes <= LARGEST) & (c.lost <= LARGEST)
+    fits(c.dropped) & fits(c.received) & fits(c.bytes) & fits(c.lost)
 }
 
 pub fn queue_sound(q: Queue) -> bool

@@ -1,8 +1,5 @@
 // Settings (003) of a session, flat: the opening checks every field, whether the mode uses it or not (01, refusal 1).
 ghost use mathlib.Core.Path.{_≡_};
-ghost use Prim.Native.Nat.{_<_, _^_};
-ghost use lib.Dec.{T};
-ghost use Rattle.rtx_state.specs.RoundTrip.{optRttInRange};
 ghost use Rattle.config.specs.Timings.{nackTimings, targetDelay};
 ghost use Rattle.config.specs.Valid.{settingsValid, sendersValid};
 use rtp::Ssrc;
@@ -53,9 +50,7 @@ pub struct NackTimings {
 
 impl Settings {
     pub fn nack_timings(self, rtt: OptRtt) -> NackTimings
-        requires { ⌜ T (optRttInRange rtt) ⌝ }
         ensures { λ r. ⌜ r ≡ nackTimings self rtt ⌝ }
-        ensures { λ r. ⌜ (T (settingsValid self) → r .resend < 2 ^ 54) ⌝ }
     {
         let resend = match rtt {
             OptRtt::None => self.default_nack_resend_delay,

@@ -43,3 +43,12 @@ limit = ofBits binary64 0x4190_0000_0000_0000
 unfoldable pub fromSecsF64 : Float → FromSecs
 unfolding nearestNanos
 fromSecsF64 x = cond (le zero64 x) (cond (lt x limit) (Nanos (nearestNanos x)) Refused) Refused
+
+-- the nanoseconds of an answer of `fromSecsF64`, 0 where it refuses
+unfoldable pub nanosOf : FromSecs → ℕ
+nanosOf (Nanos n) = n
+nanosOf Refused = 0
+
+unfoldable pub nanosFromSecs : Float → ℕ
+unfolding fromSecsF64 nanosOf
+nanosFromSecs x = nanosOf (fromSecsF64 x)

@@ -11,6 +11,9 @@ use durations::FromSecs;
 use rtp::ExtendedRtpTimestamp;
 use rtp::opt::Opt;
 
+// Nanoseconds, 2^53: a front packet that was sent longer than this before the last one is due (01, "Hand-out").
+const LONGEST_DELTA: u64 = 9007199254740992;
+
 // The limit: packets of at most this timestamp are handed out at `now`; where there is none, nothing is.
 pub fn max_timestamp(
     last_instant: u64,
@@ -96,7 +99,7 @@ fn remaining(last_instant: u64, delta: u64, delay: u64, now: u64) -> u64
     requires { ⌜ («last_instant» ≤ largest) × (delay ≤ longest) × (now ≤ largest) ⌝ }
     ensures { λ r. ⌜ r ≡ remainingOf «last_instant» delta delay now ⌝ }
 {
-    if delta > 9007199254740992 {
+    if delta > LONGEST_DELTA {
         return 0;
     }
     let due = last_instant + delay;

@@ -1,4 +1,5 @@
 -- The range law: a jitter from 0 to the clock rate stays there, since each step goes a part of the way to a sample from 0 to the clock rate.
+-- Such a jitter is at most a second.
 use mathlib.Core.Path.{_≡_, refl, sym, ap, _∙_, subst}
 use mathlib.Core.Logic.{inl}
 use mathlib.Core.Bool.{Bool, true, false, not, _&&_, Bool·beq, cond}
@@ -12,11 +13,11 @@ use lib.Ieee.{Float, nan, inf, fin, Format, binary64, prec, emax, low, ofBits, o
 use lib.Ieee.Fits.{round-is, and-l, and-r, and-i}
 use lib.Ieee.Order.{kept, drop}
 use lib.Ieee.Positive.{num, den, den-pos, positive, value→cross, through}
-use Rattle.float_laws.proofs.Upto.{NonNeg, Upto, To, Plain, nought, upto-of-le, nought-le, ofInt-upto, ofInt-value, ofInt-within, cross→le, whole-to, mul-upto, lt→cross, nlt→cross, nlt→nonneg, eq→cross, eq-self, nonneg-between, positive-nonneg, positive-of, ratio-upto}
+use Rattle.float_laws.proofs.Upto.{NonNeg, Upto, To, Plain, nought, upto-of-le, nought-le, ofInt-upto, ofInt-value, ofInt-within, cross→le, whole-to, mul-upto, lt→cross, nlt→cross, nlt→nonneg, eq→cross, eq-self, nonneg-between, positive-of, ratio-upto}
 use Rattle.float_laws.proofs.Toward.{toward-up, toward-down}
-use Rattle.durations.specs.Seconds.{asSecsF64, giga, limit, zero64}
-use Rattle.durations.proofs.Bound.{zero-is, secs-upto, upto-in}
-use Rattle.jitter.specs.Interarrival.{one64, sixteen, sixty-four, tiny, newJitter, magnitude, recvDelta, rtpTsDelta, moved, sampled, jitterUpdated, jitterWithin, jitterInRange}
+use Rattle.durations.specs.Seconds.{asSecsF64, giga, nearestNanos, zero64}
+use Rattle.durations.proofs.Bound.{zero-is, secs-upto, nanos-in, nanos-le}
+use Rattle.jitter.specs.Interarrival.{one64, sixteen, sixty-four, tiny, newJitter, magnitude, recvDelta, rtpTsDelta, moved, sampled, jitterUpdated, jitterGet, jitterWithin, jitterInRange}
 use Rattle.jitter.specs.declared.Jitter.{Jitter}
 
 one-is : one64 ≡ fin false 1 (pos 0)
@@ -173,7 +174,7 @@ module _ (n : ℕ) (some : 1 ≤ n) (small : n < 2 ^ 32) (j : Jitter) (ok : T (j
   unfolding jitterInRange
   same = and-l (eq (j .«clock_rate») rate) (jitterWithin j) ok
 
-  pub within : T (jitterWithin j)
+  within : T (jitterWithin j)
   unfolding jitterInRange
   within = and-r (eq (j .«clock_rate») rate) (jitterWithin j) ok
 
@@ -189,8 +190,7 @@ module _ (n : ℕ) (some : 1 ≤ n) (small : n < 2 ^ 32) (j : Jitter) (ok : T (j
           let e : R ≡ n * v = sym (mul-one R) ∙ k in
           mul-one X ∙ eq-of-mul-eq-mul-right v p X (n * u) (h ∙ ap (λ (r : ℕ). r * u) e ∙ mul-right-comm n v u)
 
-  -- what `get` asks beside `within`
-  pub positive-rate : T (positive (j .«clock_rate»))
+  positive-rate : T (positive (j .«clock_rate»))
   positive-rate =
       let x = j .«clock_rate» in
       positive-of x (cross .0) (subst (λ (k : ℕ). 0 < k) (sym (sym (mul-one (num x)) ∙ value)) (mul-pos some (den-pos x)))
@@ -202,6 +202,27 @@ module _ (n : ℕ) (some : 1 ≤ n) (small : n < 2 ^ 32) (j : Jitter) (ok : T (j
       let kept = updated-kept n fits j (cross .0) value now ts li lts h a b (of-test n fits j (cross .0) value within) in
       and-i (eq (k .«clock_rate») rate) (jitterWithin k) (subst (λ (x : Float). T (eq x rate)) (sym (kept .0)) same) (to-test n fits j (cross .0) value k kept)
 
+  -- the jitter over the clock rate is from 0 to 1, so `get` is not refused, and tells at most a second
+  abbrev ratio : Float
+  ratio = div binary64 (j .jitter) (j .«clock_rate»)
+
+  ratio-in : Upto ratio 1 1
+  unfolding jitterWithin
+  ratio-in =
+      let x = j .jitter in
+      let c = j .«clock_rate» in
+      let l = and-r (le zero64 x) (le x c) within in
+      let q = nonneg-between x c (cross .0) (subst (λ (k : Float). T (le k x)) zero-is (and-l (le zero64 x) (le x c) within)) l in
+      ratio-upto binary64 x c q positive-rate l
+
+  pub get-in : jitterGet j ≡ nearestNanos ratio
+  unfolding jitterGet
+  get-in = nanos-in ratio 1 (lit< tt) ratio-in
+
+  pub get-le : jitterGet j ≤ giga
+  unfolding jitterGet
+  get-le = nanos-le ratio 1 (lit< tt) ratio-in
+
 pub new-in : (n : ℕ) → n < 2 ^ 32 → T (jitterInRange n (newJitter n))
 unfolding jitterInRange jitterWithin
 new-in n h =
@@ -209,13 +230,3 @@ new-in n h =
     let p : NonNeg x = ofInt-upto binary64 n (omega arith) .0 in
     let z : T (le zero64 zero64) = subst (λ (k : Float). T (le k k)) (sym zero-is) (nought-le nought (inl refl)) in
     and-i (eq x x) (le zero64 zero64 && le zero64 x) (eq-self x p) (and-i (le zero64 zero64) (le zero64 x) z (subst (λ (k : Float). T (le k x)) (sym zero-is) (nought-le x p)))
-
--- ---- the jitter over the clock rate is from 0 to 1, so `nearest_nanos` takes it
-pub ratio-in : (j : Jitter) → T (positive (j .«clock_rate»)) → T (jitterWithin j) → T (le zero64 (div binary64 (j .jitter) (j .«clock_rate»))) × T (lt (div binary64 (j .jitter) (j .«clock_rate»)) limit)
-unfolding jitterWithin
-ratio-in j p w =
-    let x = j .jitter in
-    let c = j .«clock_rate» in
-    let l = and-r (le zero64 x) (le x c) w in
-    let q = nonneg-between x c (positive-nonneg c p) (subst (λ (k : Float). T (le k x)) zero-is (and-l (le zero64 x) (le x c) w)) l in
-    upto-in (div binary64 x c) 1 (lit< tt) (ratio-upto binary64 x c q p l)

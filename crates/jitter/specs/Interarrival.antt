@@ -4,7 +4,7 @@ use Prim.Native.Nat.{ℕ, _-_}
 use lib.IntN.{pos}
 use lib.Dec.{eqb}
 use lib.Ieee.{Float, nan, inf, fin, binary64, ofBits, ofInt, add, sub, mul, div, lt, le, eq}
-use Rattle.durations.specs.Seconds.{asSecsF64, nearestNanos, zero64}
+use Rattle.durations.specs.Seconds.{asSecsF64, nanosFromSecs, zero64}
 use Rattle.jitter.specs.declared.Jitter.{Jitter}
 
 -- 1e-8, 1.0, 16.0 and 64.0 as `f64`
@@ -57,8 +57,8 @@ jitterUpdated j now timestamp lastInstant lastTimestamp =
 
 -- in nanoseconds
 unfoldable pub jitterGet : Jitter → ℕ
-unfolding nearestNanos
-jitterGet j = nearestNanos (div binary64 (j .jitter) (j .«clock_rate»))
+unfolding nanosFromSecs
+jitterGet j = nanosFromSecs (div binary64 (j .jitter) (j .«clock_rate»))
 
 -- check 16: "jitter not from 0 to the clock rate" is refused; no NaN passes
 unfoldable pub jitterWithin : Jitter → Bool

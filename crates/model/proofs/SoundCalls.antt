@@ -1,23 +1,17 @@
 -- A working session never locks itself up: a newly opened session is sound, each call that is not refused leaves a sound one (`taken-sound`),
 -- and what is written of a sound session is read as the same session, so check 16 passes it (`written`).
 use mathlib.Core.Path.{_≡_, refl, sym, subst}
-use mathlib.Core.Logic.{inl}
 use mathlib.Core.Bool.{Bool, true, false, not, _&&_}
-use Prim.Native.Nat.{ℕ, _*_, _≤_}
+use Prim.Native.Nat.{ℕ}
 use native.Mathlib.Omega.{arith}
-use lib.IntN.{pos}
-use lib.Dec.{T, eqb, eqb-refl, lit<, lit≤}
+use lib.Dec.{T, lit<, lit≤}
 use borrow.Author.Tests.{eq-eqb}
-use lib.Ieee.{Float, nan, inf, fin, binary64, ofBits, ofInt, up, down, eq, le}
 use lib.Ieee.Bits.{is-true}
 use lib.Ieee.Fits.{and-l, and-r, and-i}
-use Rattle.float_laws.proofs.Upto.{NonNeg, nought-le, ofInt-upto}
 use Rattle.refusals.specs.Refusals.{SETTINGS, SESSION}
 use Rattle.refusals.proofs.Laws.{orElse-none}
-use Rattle.durations.specs.Seconds.{zero64}
-use Rattle.durations.proofs.Bound.{zero-is}
-use Rattle.jitter.specs.Interarrival.{newJitter, jitterWithin, jitterInRange}
-use Rattle.packet_loss.specs.Loss.{newLoss, lossInRange}
+use Rattle.jitter.proofs.Range.{new-in as new-jitter}
+use Rattle.packet_loss.proofs.Range.{new-in as new-loss}
 use Rattle.rtx_state.specs.RoundTrip.{optRttInRange}
 use Rattle.model.specs.declared.Config.{Config}
 use Rattle.model.specs.Records.{State, newQueue, newState, highestOf, returnedOf}
@@ -37,28 +31,6 @@ use Rattle.model.proofs.SoundPoll.{poll-sound, poll-nack-sound}
 
 -- ---- the opening
 
--- a finite float equals itself
-eq-self : (x : Float) → NonNeg x → T (eq x x)
-unfolding eq
-eq-self nan p = absurd p
-eq-self (inf s) p = absurd p
-eq-self (fin false m e) p = and-i (eqb (m * up e * down e) (m * up e * down e)) true (eqb-refl (m * up e * down e)) tt
-eq-self (fin true m e) p = and-i (eqb (m * up e * down e) (m * up e * down e)) true (eqb-refl (m * up e * down e)) tt
-
-zero-le : (x : Float) → NonNeg x → T (le zero64 x)
-zero-le x p = subst (λ (z : Float). T (le z x)) (sym zero-is) (nought-le x p)
-
-new-jitter : (n : ℕ) → n ≤ 1000000 → T (jitterInRange n (newJitter n))
-unfolding jitterInRange jitterWithin
-new-jitter n small =
-    let r = ofInt binary64 (pos n) in
-    let p = ofInt-upto binary64 n (omega arith) .0 in
-    and-i (eq r r) (le zero64 zero64 && le zero64 r) (eq-self r p) (and-i (le zero64 zero64) (le zero64 r) (zero-le zero64 (subst NonNeg (sym zero-is) (inl refl))) (zero-le r p))
-
-new-loss : T (lossInRange newLoss)
-unfolding lossInRange ofBits le
-new-loss = tt
-
 new-sound : (c : Config) → T (configValid c) → Sound (newState c)
 unfolding newState newQueue lastSound optRttInRange Returned highestOf returnedOf
 new-sound c v =
@@ -70,7 +42,7 @@ new-sound c v =
             last-in = tt;
             counters-in = record { dropped-fits = lit≤ tt; received-fits = lit≤ tt; bytes-fit = lit≤ tt; lost-fits = lit≤ tt };
             rtx-in = record { rtt-in = tt; in-time-fits = lit≤ tt; too-late-fits = lit≤ tt; redundant-fits = lit≤ tt; bytes-fit = lit≤ tt };
-            jitter-in = new-jitter (c .settings .«clock_rate») (rate-of c v .small);
+            jitter-in = new-jitter (c .settings .«clock_rate») (omega (arith, rate-of c v .small));
             loss-in = new-loss;
           };
       lists-in = record { returned-in = tt; gaps-rise = empty; gaps-in = none; entries-rise = empty; entries-in = none; apart = none; remembered-in = none };

@@ -15,12 +15,11 @@ use Rattle.words.proofs.Ordered.{and-left, and-right, rank-le}
 use Rattle.words.proofs.Forms.{recordsOf}
 use Rattle.durations.specs.Seconds.{largest}
 use Rattle.rtx_state.specs.declared.OptRtt.{OptRtt}
-use Rattle.rtx_state.specs.declared.OptRtt.the-variants as OptRtt
 use Rattle.rtx_state.specs.RoundTrip.{optRttInRange}
-use Rattle.rtx_state.proofs.Range.{delay-lt}
 use Rattle.config.specs.declared.Settings.{Settings}
-use Rattle.config.specs.Timings.{resendDelayOf, nackTimings}
+use Rattle.config.specs.Timings.{nackTimings}
 use Rattle.config.specs.Valid.{longest}
+use Rattle.config.proofs.Facts.{resend-lt}
 use Rattle.model.specs.Lists.{leading, trailing, every?}
 use Rattle.model.specs.Records.{Gap, gapNumbers}
 use Rattle.model.specs.Rules.{gapsBelow, gapsFrom}
@@ -55,9 +54,8 @@ sound-instants b gs c e = every-weaker (gapSound b) instantsFit one gs e
 
 -- valid settings and an estimate in range give small timings
 pub small-timings : (set : Settings) (rtt : OptRtt) → set .«initial_nack_delay» ≤ longest → set .«default_nack_resend_delay» ≤ longest → T (optRttInRange rtt) → Small (nackTimings set rtt)
-unfolding nackTimings resendDelayOf optRttInRange
-small-timings set OptRtt.None i d r = record { initial = omega arith; resend = omega arith }
-small-timings set (OptRtt.Some e) i d r = record { initial = omega arith; resend = delay-lt e r }
+unfolding nackTimings
+small-timings set rtt i d r = record { initial = omega arith; resend = resend-lt set rtt d r }
 
 -- ---- parts of the list
 

@@ -4,7 +4,6 @@ use mathlib.Core.Bool.{Bool, true, false}
 use mathlib.Core.List.{List, [], _∷_, map}
 use Prim.Native.Nat.{ℕ, zero, suc, _+_, _*_, _^_, _≤_, _<_}
 use native.Mathlib.Omega.{arith}
-use lib.Dec.{T}
 use lib.ListN.{length, drop, length-map}
 use Rattle.words.specs.Words.{over}
 use Rattle.words.specs.Blocks.{laid}
@@ -14,8 +13,6 @@ use Rattle.refusals.proofs.Laws.{orElse-first, orElse-second, orElse-none, pass
 use Rattle.durations.specs.Seconds.{largest}
 use Rattle.config.specs.declared.Settings.{Settings}
 use Rattle.config.specs.declared.NackTimings.{NackTimings}
-use Rattle.config.specs.Valid.{settingsValid}
-use Rattle.rtx_state.specs.RoundTrip.{optRttInRange}
 use Rattle.model.specs.declared.Queue.{Queue}
 use Rattle.model.specs.declared.Session.{Session}
 use Rattle.model.specs.Lists.{keep, some?, every?}
@@ -29,6 +26,7 @@ use Rattle.model.specs.Did.{accepted}
 use Rattle.model.proofs.Laid.{length-entriesOf, length-rememberedOf}
 use Rattle.packet_gaps.specs.Gaps.{GapsIn, instantsFit, Small}
 use Rattle.model.specs.Contract.{stored, Does}
+use Rattle.session.proofs.Bounds.{timings-small}
 use Rattle.storage.specs.Settled.{Settled}
 use Rattle.poll.specs.Steps.{Leaves, Nacking, drainedSession}
 use Rattle.storage.proofs.Settled.{checked, ready, holding, settled-of, settings-in, instants}
@@ -217,16 +215,16 @@ module _ (now : ℕ) (m : Stored) (out : List ℕ) where
       pub nack-room : GAP-WORDS * m .session .gaps ≤ length (m .storage .gaps)
       nack-room = checked m nack-sound .room .gaps
 
-      pub nack-timed : T (settingsValid (q .config .settings)) × T (optRttInRange (q .rtx .rtt))
+      nack-timed : (t : NackTimings) → t ≡ timingsOf q → Small t
       unfolding parse
-      nack-timed = let k = checked m nack-sound in (settings-in m k, k .sound .queue-in .rtx-in .rtt-in)
+      nack-timed t et = let k = checked m nack-sound in timings-small q t et (settings-in m k) (k .sound .queue-in .rtx-in .rtt-in)
 
       clock-fits : q .clock ≤ largest
       clock-fits = omega (arith, is-timely m places now out r e z)
 
-      pub nack-bounded : (every? instantsFit listed ≡ true) × (q .counters .lost + m .session .gaps < 2 ^ 64)
+      pub nack-bounded : (t : NackTimings) → t ≡ timingsOf q → Small t × ((every? instantsFit listed ≡ true) × (q .counters .lost + m .session .gaps < 2 ^ 64))
       unfolding parse
-      nack-bounded = let k = checked m nack-sound in (instants m k clock-fits, lost-in m k)
+      nack-bounded t et = let k = checked m nack-sound in (nack-timed t et, (instants m k clock-fits, lost-in m k))
 
       module _ (b : ℕ) (eb : b ≡ nacksRefusal now q listed) where
         pub nack-late : (b ≡ 0 → ⊥) → Does (pollNack now out) m (refused b) m out
@@ -235,12 +233,12 @@ module _ (now : ℕ) (m : Stored) (out : List ℕ) where
 
         -- the storage that is settled
         module _ (n : b ≡ 0) (e′ p g r′ : List ℕ) (w : stored (m .session) e′ p g r′ ≡ write (parse m)) where
-          pub nack-taken : (given : ℕ) (t : NackTimings) → given ≡ length (givenUp (q .config .settings) listed) → t ≡ timingsOf q → Small t
+          pub nack-taken : (given : ℕ) (t : NackTimings) → given ≡ length (givenUp (q .config .settings) listed) → t ≡ timingsOf q
               → Nacking now (m .session) g given t × (m .session .gaps ≤ length out)
           unfolding parse
-          nack-taken given t eg et small =
+          nack-taken given t eg et =
               let k = checked m nack-sound in
-              (nacking now m nack-sound e′ p g r′ w given t clock-fits eg et small (sym eb ∙ n), omega (arith, is-room m places now out r e z, k .counts .gaps))
+              (nacking now m nack-sound e′ p g r′ w given t clock-fits eg et (nack-timed t et) (sym eb ∙ n), omega (arith, is-room m places now out r e z, k .counts .gaps))
 
           pub nack-done : (d : Session) (a : Answer) (g′ o : List ℕ)
               → d ≡ drainedSession now (m .session) (gapsOf g (m .session .gaps))

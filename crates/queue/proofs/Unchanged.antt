@@ -12,7 +12,6 @@ use Rattle.rtp.specs.declared.opt.Opt.the-variants as Opt
 use Rattle.durations.specs.Seconds.{largest}
 use Rattle.refusals.specs.Refusals.{orElse}
 use Rattle.refusals.proofs.Laws.{orElse-first, orElse-none}
-use Rattle.rtx_state.specs.RoundTrip.{optRttInRange}
 use Rattle.config.specs.declared.NackTimings.{NackTimings}
 use Rattle.config.specs.declared.RtpInboundQueueMode.{RtpInboundQueueMode}
 use Rattle.config.specs.declared.RtpInboundQueueMode.the-variants.{Passthrough, SortedQueue}
@@ -31,7 +30,8 @@ use Rattle.model.specs.Table.{sessionSound, sessionRefusal, clockRefusal, callR
 use Rattle.model.specs.Did.{accepted}
 use Rattle.model.proofs.Lists.{Each, each-first, each-imp}
 use Rattle.model.proofs.SoundQueue.{clock-of, last-later}
-use Rattle.packet_gaps.specs.Gaps.{instantsFit}
+use Rattle.packet_gaps.specs.Gaps.{instantsFit, Small}
+use Rattle.session.proofs.Bounds.{timings-small}
 use Rattle.model.specs.Contract.{stored, Does}
 use Rattle.storage.proofs.Settled.{checked, Ready, ready, settings-in, instants, accepted-is, passed-16}
 
@@ -116,14 +116,11 @@ module _ (m : Stored) (now : ℕ) (h : orElse (sessionRefusal m) (clockRefusal (
         sym (f p ∙ ap (λ (l : List Entry). receiveTimeout (q .config .settings .mode) (q .config .settings) (q .last) l now) (settled-is .entries-are)) in
         left-as-is (Calls.timeoutReceive now) m (stored (m .session) e p g r) (Calls.timeout t) 0 (sym h) refl refl refl (ap Calls.timeout a) w
 
-    pub nack-timed : T (settingsValid (m .session .queue .config .settings)) × T (optRttInRange (m .session .queue .rtx .rtt))
+    pub nack-ready : (t : NackTimings) → t ≡ timingsOf (m .session .queue) → (GAP-WORDS * m .session .gaps ≤ length g) × ((every? instantsFit (gapsOf g (m .session .gaps)) ≡ true) × Small t)
     unfolding parse
-    nack-timed = (valid, settled-is .checked .sound .queue-in .rtx-in .rtt-in)
-
-    pub nack-ready : (GAP-WORDS * m .session .gaps ≤ length g) × (every? instantsFit (gapsOf g (m .session .gaps)) ≡ true)
-    nack-ready =
+    nack-ready t et =
         let k = settled-is in
-        (k .gaps-in .room, ap (every? instantsFit) (k .gaps-are) ∙ instants m (k .checked) (omega (arith, clock)))
+        (k .gaps-in .room, (ap (every? instantsFit) (k .gaps-are) ∙ instants m (k .checked) (omega (arith, clock)), timings-small (m .session .queue) t et valid (k .checked .sound .queue-in .rtx-in .rtt-in)))
 
     pub nacked-timeout : (t : Opt) (n : NackTimings) → n ≡ timingsOf (m .session .queue) → t ≡ nackTimeout n now (gapsOf g (m .session .gaps))
         → Does (Calls.timeoutNack now) m (Calls.timeout t) (stored (m .session) e p g r) []

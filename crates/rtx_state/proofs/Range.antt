@@ -8,12 +8,12 @@ use native.Mathlib.Nat.{le-refl, lt-of-le-of-lt}
 use native.Mathlib.Omega.{arith}
 use lib.IntN.{negsuc}
 use lib.Dec.{T, leb, leb→le, le→leb, lit≤, lit<}
-use lib.Ieee.{Float, fin, binary64, ofBits, add, mul, le, lt}
+use lib.Ieee.{Float, fin, binary64, ofBits, add, mul}
 use lib.Ieee.Fits.{and-l, and-r, and-i}
 use Rattle.float_laws.proofs.Upto.{Upto, whole-to, add-upto, mul-upto}
 use Rattle.rtp.specs.Numbers.{apart}
-use Rattle.durations.specs.Seconds.{largest, asSecsF64, zero64, limit}
-use Rattle.durations.proofs.Bound.{secs-upto, nanos-le, upto-in}
+use Rattle.durations.specs.Seconds.{largest, asSecsF64, nearestNanos}
+use Rattle.durations.proofs.Bound.{secs-upto, nanos-in, nanos-le}
 use Rattle.rtx_state.specs.RoundTrip.{three-halves, fromFirstSample, rttUpdated, sampledRtt, nackResendDelay, rttInRange, optRttInRange}
 use Rattle.rtx_state.specs.declared.RtxRtt.{RtxRtt}
 use Rattle.rtx_state.specs.declared.OptRtt.{OptRtt}
@@ -59,10 +59,11 @@ delay-upto e h =
     (mul-upto binary64 (asSecsF64 (e .variation)) (fin false 3 (negsuc 0)) 4503600 1 3 2 6755400 1 6755400 1 (lit< tt) (lit< tt) (lit< tt) (whole-to binary64 6755400 (lit≤ tt)) v (inl refl, le-refl _) (lit≤ tt)) in
     add-upto binary64 (asSecsF64 (e .srtt)) (mul binary64 (asSecsF64 (e .variation)) three-halves) 4503600 1 6755400 1 11259000 1 11259000 1 (lit< tt) (lit< tt) (lit< tt) (whole-to binary64 11259000 (lit≤ tt)) a c (lit≤ tt)
 
--- what `nearest_nanos` asks
-pub delay-in : (e : RtxRtt) → T (rttInRange e) → T (le zero64 (delay e)) × T (lt (delay e) limit)
-delay-in e h = upto-in (delay e) 11259000 (lit< tt) (delay-upto e h)
+-- it is not refused
+pub delay-in : (e : RtxRtt) → T (rttInRange e) → nackResendDelay e ≡ nearestNanos (delay e)
+unfolding nackResendDelay
+delay-in e h = nanos-in (delay e) 11259000 (lit< tt) (delay-upto e h)
 
 pub delay-lt : (e : RtxRtt) → T (rttInRange e) → nackResendDelay e < 2 ^ 54
 unfolding nackResendDelay
-delay-lt e h = lt-of-le-of-lt (nanos-le (delay e) 11259000 (delay-upto e h)) (lit< tt)
+delay-lt e h = lt-of-le-of-lt (nanos-le (delay e) 11259000 (lit< tt) (delay-upto e h)) (lit< tt)

@@ -6,7 +6,7 @@ use lib.Ieee.{Float, binary64, ofBits, add, mul}
 use Rattle.rtp.specs.Numbers.{apart}
 use Rattle.rtp.specs.declared.opt.Opt.{Opt}
 use Rattle.rtp.specs.declared.opt.Opt.the-variants as Opt
-use Rattle.durations.specs.Seconds.{largest, asSecsF64, nearestNanos}
+use Rattle.durations.specs.Seconds.{largest, asSecsF64, nanosFromSecs}
 use Rattle.rtx_state.specs.declared.RtxRtt.{RtxRtt}
 use Rattle.rtx_state.specs.declared.OptRtt.{OptRtt}
 use Rattle.rtx_state.specs.declared.OptRtt.the-variants.{None, Some}
@@ -35,8 +35,8 @@ three-halves = ofBits binary64 0x3ff8_0000_0000_0000
 
 -- "srtt + variation · 1.5, in f64 seconds"
 unfoldable pub nackResendDelay : RtxRtt → ℕ
-unfolding asSecsF64 nearestNanos
-nackResendDelay e = nearestNanos (add binary64 (asSecsF64 (e .srtt)) (mul binary64 (asSecsF64 (e .variation)) three-halves))
+unfolding asSecsF64 nanosFromSecs
+nackResendDelay e = nanosFromSecs (add binary64 (asSecsF64 (e .srtt)) (mul binary64 (asSecsF64 (e .variation)) three-halves))
 
 -- check 16: an "srtt or variation over 2^52 − 1" is refused
 unfoldable pub rttInRange : RtxRtt → Bool

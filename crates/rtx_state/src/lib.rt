@@ -1,11 +1,8 @@
 // Repair state (002): the round trip estimate and the counters. The list of lost numbers NACKed once lives in lent storage.
 ghost use mathlib.Core.Path.{_≡_};
-ghost use Prim.Native.Nat.{_≤_, _<_, _^_};
-ghost use lib.Dec.{T};
-ghost use Rattle.durations.specs.Seconds.{largest};
 ghost use Rattle.rtx_state.specs.RoundTrip.{fromFirstSample, rttUpdated, nackResendDelay, rttInRange, sampledRtt, optRttInRange, srttOf};
 ghost use Rattle.rtx_state.specs.Repair.{newRtxState, updateRtt, recordInTime, recordRedundant, recordTooLate, rtxStats, rtxInRange};
-use durations::LARGEST;
+use durations::fits;
 use rtp::opt::Opt;
 use stats::RtpInboundRtxStats;
 
@@ -18,7 +15,6 @@ pub struct RtxRtt {
 impl RtxRtt {
     pub fn from_first_sample(sample: u64) -> RtxRtt
         ensures { λ r. ⌜ r ≡ fromFirstSample sample ⌝ }
-        ensures { λ r. ⌜ (sample ≤ largest → T (rttInRange r)) ⌝ }
     {
         RtxRtt {
             srtt: sample,
@@ -29,7 +25,6 @@ impl RtxRtt {
     // The estimate is lent and altered here; `updated` has the numbers.
     pub fn update(&mut self, sample: u64)
         ensures { λ _. ⌜ now (self .exit) ≡ rttUpdated (now (self .entry)) sample ⌝ }
-        ensures { λ _. ⌜ (T (rttInRange (now (self .entry))) → sample ≤ largest → T (rttInRange (now (self .exit)))) ⌝ }
     {
         *self = updated(self.srtt, self.variation, sample);
     }
@@ -37,7 +32,6 @@ impl RtxRtt {
     // For callers that hold the estimate by value: it is lent to its update, and handed back.
     pub fn with_sample(mut self, sample: u64) -> RtxRtt
         ensures { λ r. ⌜ r ≡ rttUpdated self sample ⌝ }
-        ensures { λ r. ⌜ (T (rttInRange self) → sample ≤ largest → T (rttInRange r)) ⌝ }
     {
         self.update(sample);
         self
@@ -45,20 +39,18 @@ impl RtxRtt {
 
     // In nanoseconds: srtt + 1.5 * variation, worked out in f64 seconds.
     pub fn nack_resend_delay(self) -> u64
-        requires { ⌜ T (rttInRange self) ⌝ }
         ensures { λ r. ⌜ r ≡ nackResendDelay self ⌝ }
-        ensures { λ r. ⌜ r < 2 ^ 54 ⌝ }
     {
         let srtt = durations::as_secs_f64(self.srtt);
         let variation = durations::as_secs_f64(self.variation);
-        durations::nearest_nanos(srtt + variation * 1.5)
+        durations::nanos_from_secs(srtt + variation * 1.5)
     }
 
     // Check 16's test of the estimate.
     pub fn in_range(self) -> bool
         ensures { λ r. ⌜ r ≡ rttInRange self ⌝ }
     {
-        (self.srtt <= LARGEST) & (self.variation <= LARGEST)
+        fits(self.srtt) & fits(self.variation)
     }
 }
 
@@ -66,10 +58,10 @@ impl RtxRtt {
 fn updated(srtt: u64, variation: u64, sample: u64) -> RtxRtt
     ensures { λ r. ⌜ r ≡ rttUpdated (record { srtt = srtt; variation = variation }) sample ⌝ }
 {
-    let new_srtt = srtt / 8 * 7 + srtt % 8 * 7 / 8 + sample / 8;
-    // From the srtt before: the variation is updated first (RFC 6298, 2.3).
+    // The variation is updated first, from the srtt before (RFC 6298, 2.3).
     let diff = rtp::abs_diff(srtt, sample);
     let new_variation = variation / 4 * 3 + variation % 4 * 3 / 4 + diff / 4;
+    let new_srtt = srtt / 8 * 7 + srtt % 8 * 7 / 8 + sample / 8;
     RtxRtt {
         srtt: new_srtt,
         variation: new_variation,
@@ -85,7 +77,6 @@ pub enum OptRtt {
 impl OptRtt {
     pub fn sampled(self, sample: u64) -> OptRtt
         ensures { λ r. ⌜ r ≡ sampledRtt self sample ⌝ }
-        ensures { λ r. ⌜ (T (optRttInRange self) → sample ≤ largest → T (optRttInRange r)) ⌝ }
     {
         match self {
             OptRtt::None => OptRtt::Some(RtxRtt::from_first_sample(sample)),
@@ -181,10 +172,10 @@ impl RtxState {
     {
         let rtt = self.rtt;
         rtt.in_range()
-            & (self.received_in_time <= LARGEST)
-            & (self.received_too_late <= LARGEST)
-            & (self.received_redundant <= LARGEST)
-            & (self.bytes_received <= LARGEST)
+            & fits(self.received_in_time)
+            & fits(self.received_too_late)
+            & fits(self.received_redundant)
+            & fits(self.bytes_received)
     }
 }
 

@@ -1,9 +1,5 @@
 // The timings of NACKs (01, "Repair state"): the settings', and the measured round trip's.
 ghost use mathlib.Core.Path.{_≡_};
-ghost use lib.Dec.{T};
-ghost use Rattle.rtx_state.specs.RoundTrip.{optRttInRange};
-ghost use Rattle.config.specs.Valid.{settingsValid};
-ghost use Rattle.packet_gaps.specs.Gaps.{Small};
 ghost use Rattle.model.specs.Rules.{estimateIn};
 ghost use Rattle.model.specs.Poll.{timingsOf};
 use config::NackTimings;
@@ -25,9 +21,7 @@ fn estimate_of(q: Queue) -> OptRtt
 
 // After how long a gap is NACKed, first and again.
 pub fn nack_timings(q: Queue) -> NackTimings
-    requires { ⌜ T (settingsValid (q .config .settings)) × T (optRttInRange (q .rtx .rtt)) ⌝ }
     ensures { λ r. ⌜ r ≡ timingsOf q ⌝ }
-    ensures { λ r. ⌜ Small r ⌝ }
 {
     let config = q.config;
     let set = config.settings;

@@ -2,7 +2,6 @@
 use mathlib.Core.Path.{sym, _∙_}
 use borrow.Author.Tests.{not-true, not-false}
 use Rattle.ffi.specs.Exported.{queueFigures, figuresOf}
-use Rattle.ffi.proofs.Jitter.{gettable}
 use borrow.Author.Needs.{needs}
 use Rattle.ffi.proofs.figures_told.Statement.{statement}
 use Rattle.ffi.proofs.figures_told.Tie as tie
@@ -28,7 +27,7 @@ unfolding queueFigures
 returns-2 c = rw (sym (c .before .before .before .before .config-valid .ensures) ∙ not-false _ (c .before .before .before .if1 .left), sym (c .before .before .queue-sound .ensures) ∙ not-true _ (c .before .if2 .taken)) (c .figures-refused2 .ensures)
 
 get-requires : tie.Need-get-requires
-get-requires c κs = gettable (c .before .before .before .before .before .before .before .before .args .q) (sym (c .before .before .before .before .before .before .config-valid .ensures) ∙ not-false _ (c .before .before .before .before .before .if1 .left)) (sym (c .before .before .before .before .queue-sound .ensures) ∙ not-false _ (c .before .before .before .if2 .left))
+get-requires c κs = search needs
 
 get-requires-2 : tie.Need-get-requires-2
 get-requires-2 c κs = search needs

@@ -23,7 +23,7 @@ returns c =
 
 returns-2 : tie.Need-returns-2
 unfolding heard jitterAfter
-returns-2 c = rw (c .update .ensures .0, c .before .before .last .given .1)
+returns-2 c = rw (c .update .ensures, c .before .before .last .given .1)
 
 pub heard-spec : {M : Type 1} → statement M
 heard-spec = tie.close (tie.spec enum-told enum-known-last update-requires returns returns-2)

@@ -3,7 +3,7 @@ use mathlib.Core.Path.{_≡_, refl, _∙_}
 use Rattle.model.specs.Contract.{stored}
 use Rattle.poll.specs.Answers.{nackAnswer}
 use Rattle.poll.proofs.Early.{earlyRefusal, early-is}
-use Rattle.poll.proofs.Nacking.{nack-early, nack-sound, nack-room, nack-timed, nack-bounded, nack-late, nack-taken, nack-done}
+use Rattle.poll.proofs.Nacking.{nack-early, nack-sound, nack-room, nack-bounded, nack-late, nack-taken, nack-done}
 use borrow.Author.Needs.{needs}
 use Rattle.poll.proofs.nack.poll_nack.Statement.{statement}
 use Rattle.poll.proofs.nack.poll_nack.Tie as tie
@@ -47,15 +47,13 @@ given-up-requires c κs =
     nack-room (a .now) (stored (a .session) (a .entries .now) (a .payloads .now) (a .gaps .now) (a .remembered .now)) (a .out .now) _ (early (c .before .before)) (c .before .if1 .left)
 
 nack-timings-requires : tie.Need-nack-timings-requires
-nack-timings-requires c κs =
-    let a = c .before .before .before .before .before .before .before .before .before .before .before .before .before .before .before .args in
-    nack-timed (a .now) (stored (a .session) (a .entries .now) (a .payloads .now) (a .gaps .now) (a .remembered .now)) (a .out .now) _ (early (c .before .before .before)) (c .before .before .if1 .left)
+nack-timings-requires c κs = search needs
 
 count-refusal-requires : tie.Need-count-refusal-requires
 count-refusal-requires c κs =
     let a = c .before .before .before .before .before .before .before .before .before .before .before .before .before .before .before .before .before .args in
     let t = c .before .nack-timings .ensures in
-    (nack-room (a .now) (stored (a .session) (a .entries .now) (a .payloads .now) (a .gaps .now) (a .remembered .now)) (a .out .now) _ (early (c .before .before .before .before .before)) (c .before .before .before .before .if1 .left), (c .before .before .given-up .ensures, (t .0, (t .1, nack-bounded (a .now) (stored (a .session) (a .entries .now) (a .payloads .now) (a .gaps .now) (a .remembered .now)) (a .out .now) _ (early (c .before .before .before .before .before)) (c .before .before .before .before .if1 .left)))))
+    (nack-room (a .now) (stored (a .session) (a .entries .now) (a .payloads .now) (a .gaps .now) (a .remembered .now)) (a .out .now) _ (early (c .before .before .before .before .before)) (c .before .before .before .before .if1 .left), (c .before .before .given-up .ensures, (t, nack-bounded (a .now) (stored (a .session) (a .entries .now) (a .payloads .now) (a .gaps .now) (a .remembered .now)) (a .out .now) _ (early (c .before .before .before .before .before)) (c .before .before .before .before .if1 .left) _ t)))
 
 same-length-5 : tie.Need-same-length-5
 same-length-5 c = search needs
@@ -84,7 +82,7 @@ accept-requires : tie.Need-accept-requires
 accept-requires c κs =
     let a = c .before .before .before .before .before .before .before .before .before .before .before .before .before .before .before .before .before .before .before .before .before .before .before .before .before .before .before .before .before .before .before .before .before .before .args in
     let t = c .before .before .before .before .before .before .before .before .before .before .before .before .before .before .before .before .before .before .nack-timings .ensures in
-    nack-taken (a .now) (stored (a .session) (a .entries .now) (a .payloads .now) (a .gaps .now) (a .remembered .now)) (a .out .now) _ (early (c .before .before .before .before .before .before .before .before .before .before .before .before .before .before .before .before .before .before .before .before .before .before)) (c .before .before .before .before .before .before .before .before .before .before .before .before .before .before .before .before .before .before .before .before .before .if1 .left) _ (c .before .before .before .before .before .before .before .before .before .before .before .before .before .before .before .before .count-refusal .ensures) (c .before .before .before .before .before .before .before .before .before .before .before .before .before .before .before .if2 .left) _ _ _ _ (c .before .before .before .before .before .before .before .before .before .before .settle .ensures) _ _ (c .before .before .before .before .before .before .before .before .before .before .before .before .before .before .before .before .before .before .before .given-up .ensures) (t .0) (t .1)
+    nack-taken (a .now) (stored (a .session) (a .entries .now) (a .payloads .now) (a .gaps .now) (a .remembered .now)) (a .out .now) _ (early (c .before .before .before .before .before .before .before .before .before .before .before .before .before .before .before .before .before .before .before .before .before .before)) (c .before .before .before .before .before .before .before .before .before .before .before .before .before .before .before .before .before .before .before .before .before .if1 .left) _ (c .before .before .before .before .before .before .before .before .before .before .before .before .before .before .before .before .count-refusal .ensures) (c .before .before .before .before .before .before .before .before .before .before .before .before .before .before .before .if2 .left) _ _ _ _ (c .before .before .before .before .before .before .before .before .before .before .settle .ensures) _ _ (c .before .before .before .before .before .before .before .before .before .before .before .before .before .before .before .before .before .before .before .given-up .ensures) t
 
 same-length-9 : tie.Need-same-length-9
 same-length-9 c = c .before .before .before .before .before .before .before .before .before .before .before .before .before .before .entries .given

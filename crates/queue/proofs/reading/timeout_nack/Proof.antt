@@ -7,7 +7,7 @@ use Rattle.model.specs.Table.{callRefusal, refusal}
 use Rattle.queue.specs.Answers.{timeoutAnswer}
 use Rattle.model.specs.Contract.{stored}
 use Rattle.storage.proofs.Settled.{refused-is}
-use Rattle.queue.proofs.Unchanged.{timely-sound, nack-timed, nack-ready, nacked-timeout}
+use Rattle.queue.proofs.Unchanged.{timely-sound, nack-ready, nacked-timeout}
 use borrow.Author.Needs.{needs}
 use Rattle.queue.proofs.reading.timeout_nack.Statement.{statement}
 use Rattle.queue.proofs.reading.timeout_nack.Tie as tie
@@ -35,10 +35,10 @@ settle-requires : tie.Need-settle-requires
 settle-requires c κs = let s = c .before .before .before .before .before .before .before .before .before .before .before .before .before .before in let a = s .args in timely-sound (stored (a .session) (a .entries .now) (a .payloads .now) (a .gaps .now) (a .remembered .now)) (a .now) (sym (c .before .before .before .before .before .session-and-clock-refusal .ensures) ∙ c .before .before .before .before .if1 .left)
 
 nack-timings-requires : tie.Need-nack-timings-requires
-nack-timings-requires c κs = let s = c .before .before .before .before .before .before .before .before .before .before .before .before .before .before .before .before .before .before .before .before .before .before .before in let a = s .args in nack-timed (stored (a .session) (a .entries .now) (a .payloads .now) (a .gaps .now) (a .remembered .now)) (a .now) (sym (c .before .before .before .before .before .before .before .before .before .before .before .before .before .before .session-and-clock-refusal .ensures) ∙ c .before .before .before .before .before .before .before .before .before .before .before .before .before .if1 .left) _ _ _ _ (c .before .before .before .before .before .before .before .before .settle .ensures)
+nack-timings-requires c κs = search needs
 
 timeout-nacks-requires : tie.Need-timeout-nacks-requires
-timeout-nacks-requires c κs = let s = c .before .before .before .before .before .before .before .before .before .before .before .before .before .before .before .before .before .before .before .before .before .before .before .before .before in let a = s .args in let k = nack-ready (stored (a .session) (a .entries .now) (a .payloads .now) (a .gaps .now) (a .remembered .now)) (a .now) (sym (c .before .before .before .before .before .before .before .before .before .before .before .before .before .before .before .before .session-and-clock-refusal .ensures) ∙ c .before .before .before .before .before .before .before .before .before .before .before .before .before .before .before .if1 .left) _ _ _ _ (c .before .before .before .before .before .before .before .before .before .before .settle .ensures) in (k .0, (k .1, c .before .nack-timings .ensures .1))
+timeout-nacks-requires c κs = let s = c .before .before .before .before .before .before .before .before .before .before .before .before .before .before .before .before .before .before .before .before .before .before .before .before .before in let a = s .args in nack-ready (stored (a .session) (a .entries .now) (a .payloads .now) (a .gaps .now) (a .remembered .now)) (a .now) (sym (c .before .before .before .before .before .before .before .before .before .before .before .before .before .before .before .before .session-and-clock-refusal .ensures) ∙ c .before .before .before .before .before .before .before .before .before .before .before .before .before .before .before .if1 .left) _ _ _ _ (c .before .before .before .before .before .before .before .before .before .before .settle .ensures) _ (c .before .nack-timings .ensures)
 
 same-length-5 : tie.Need-same-length-5
 same-length-5 c = search needs
@@ -54,7 +54,7 @@ same-length-8 c = search needs
 
 returns-2 : tie.Need-returns-2
 unfolding timeoutAnswer
-returns-2 c = let s = c .before .before .before .before .before .before .before .before .before .before .before .before .before .before .before .before .before .before .before .before .before .before .before .before .before .before in let a = s .args in nacked-timeout (stored (a .session) (a .entries .now) (a .payloads .now) (a .gaps .now) (a .remembered .now)) (a .now) (sym (c .before .before .before .before .before .before .before .before .before .before .before .before .before .before .before .before .before .session-and-clock-refusal .ensures) ∙ c .before .before .before .before .before .before .before .before .before .before .before .before .before .before .before .before .if1 .left) _ _ _ _ (c .before .before .before .before .before .before .before .before .before .before .before .settle .ensures) (c .timeout-nacks .result) (c .before .before .nack-timings .result) (c .before .before .nack-timings .ensures .0) (c .timeout-nacks .ensures)
+returns-2 c = let s = c .before .before .before .before .before .before .before .before .before .before .before .before .before .before .before .before .before .before .before .before .before .before .before .before .before .before in let a = s .args in nacked-timeout (stored (a .session) (a .entries .now) (a .payloads .now) (a .gaps .now) (a .remembered .now)) (a .now) (sym (c .before .before .before .before .before .before .before .before .before .before .before .before .before .before .before .before .before .session-and-clock-refusal .ensures) ∙ c .before .before .before .before .before .before .before .before .before .before .before .before .before .before .before .before .if1 .left) _ _ _ _ (c .before .before .before .before .before .before .before .before .before .before .before .settle .ensures) (c .timeout-nacks .result) (c .before .before .nack-timings .result) (c .before .before .nack-timings .ensures) (c .timeout-nacks .ensures)
 
 pub timeout-nack-spec : {M : Type 1} → statement M
 timeout-nack-spec =

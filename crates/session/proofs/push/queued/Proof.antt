@@ -18,7 +18,7 @@ heard-requires c κs = search needs
 
 returns : tie.Need-returns
 unfolding heard
-returns c = rw (c .before .before .before .heard .ensures, c .before .before .before .before .record-received .ensures .0, c .before .before .before .before .before .last-after .ensures, c .before .before .before .before .before .before .count-received .ensures)
+returns c = rw (c .before .before .before .heard .ensures, c .before .before .before .before .record-received .ensures, c .before .before .before .before .before .last-after .ensures, c .before .before .before .before .before .before .count-received .ensures)
 
 pub queued-spec : {M : Type 1} → statement M
 queued-spec =
