@@ -1,6 +1,6 @@
 /* The receive queue of one RTP stream: datagrams and instants in; packets in order, NACK lists and timeouts out.
  *
- * Link target/staticlib/libffi.a, which `rt staticlib ffi` makes; it needs nothing else. C99 or later, 64-bit.
+ * Link target/staticlib/libffi.a, which `rt staticlib ffi` makes; it needs memset and memmove alone. C99 or later, 64-bit.
  * docs/USING.md tells how to choose settings and drive the queue. No function allocates, blocks, reads a clock or keeps
  * state of its own: a session is a struct that goes in by value and comes back by value, its storage is four arrays that
  * the caller owns. Different sessions may be used from different threads at once.
@@ -11,7 +11,8 @@
  * place of the storage holds zeros.
  *
  * Instants are nanoseconds since the box started, from a clock that never goes back, at most BIZHGEMU_LATEST. Durations
- * are nanoseconds. Flags are words, 0 or 1; a value beside a flag that is 0 is 0, and so is every answer of a refused call.
+ * are nanoseconds. Flags are words, 0 or 1; a value beside a flag that is 0 is 0 (`rtx_pt` and `rtx_ssrc` stay as they were
+ * set), and so is every answer of a refused call.
  *
  * Most programs want `struct bizhgemu_queue` and the functions named bizhgemu_queue_*, at the end of this file. They are C,
  * compiled with your program; what is proved are the functions of the archive. */

@@ -7,6 +7,11 @@ use std::time::Duration;
 
 const SSRC: u32 = 0x0102_0304;
 const RTX: Rtx = Rtx { payload_type: 97, ssrc: 0x0506_0708 };
+const MS: u64 = 1_000_000;
+/// The longest duration of a setting.
+const MINUTE: u64 = 60_000 * MS;
+/// The last instant, the largest extended value and counter.
+const END: u64 = (1 << 52) - 1;
 
 fn config() -> Config {
     Config { max_entries: 3, payload_type: 5, ssrc: SSRC, rtx: Some(RTX), ..Config::default() }
@@ -57,35 +62,100 @@ fn used() -> Queue {
     queue
 }
 
-/// The refusals of all eight calls and of the figures, on copies of session and storage; that nothing changed is asserted.
-fn refusals(queue: &Queue) -> [u64; 9] {
-    let now = queue.session.clock;
-    let datagram = media(16, 960, &[9]);
-    let mut storage = queue.storage.clone();
-    let mut payload = [0xaa; LONGEST_PAYLOAD];
-    let mut numbers = vec![0xaaaa; 4096];
-    let session = queue.session;
-    let pushed = lend!(bizhgemu_push, session, storage, now, datagram.as_ptr(), datagram.len());
-    let repaired = lend!(bizhgemu_push_rtx, session, storage, now, datagram.as_ptr(), datagram.len());
-    let polled = lend!(bizhgemu_poll, session, storage, now, payload.as_mut_ptr(), payload.len());
-    let nacked = lend!(bizhgemu_poll_nack, session, storage, now, numbers.as_mut_ptr(), numbers.len());
-    let answers = [
-        pushed.refusal,
-        repaired.refusal,
-        polled.refusal,
-        nacked.refusal,
-        lend!(bizhgemu_timeout_receive, session, storage, now).refusal,
-        lend!(bizhgemu_timeout_nack, session, storage, now).refusal,
-        lend!(bizhgemu_rtx_stats, session, storage).refusal,
-        lend!(bizhgemu_highest_sequence_number_received, session, storage).refusal,
-        ffi::bizhgemu_figures(session).refusal,
-    ];
-    assert_eq!(storage, queue.storage);
-    assert_eq!((payload, numbers), ([0xaa; LONGEST_PAYLOAD], vec![0xaaaa; 4096]));
-    for returned in [pushed.session, repaired.session, polled.session, nacked.session] {
-        assert_eq!(words(&returned), words(&session));
+/// All that is lent to a call: session and storage of `used`, and outputs just long enough, full of marks.
+#[derive(Clone)]
+struct Lent {
+    session: ffi::Session,
+    storage: Storage,
+    payload: Vec<u8>,
+    numbers: Vec<u16>,
+}
+
+fn lent() -> Lent {
+    let Queue { session, storage, .. } = used();
+    Lent { session, storage, payload: vec![0xaa; LONGEST_PAYLOAD], numbers: vec![0xaaaa; session.config.max_gaps] }
+}
+
+impl PartialEq for Lent {
+    fn eq(&self, other: &Lent) -> bool {
+        words(&self.session) == words(&other.session)
+            && self.storage == other.storage
+            && (&self.payload, &self.numbers) == (&other.payload, &other.numbers)
     }
-    answers
+}
+
+/// Calls, each answered by the number of its refusal, or by 0.
+impl Lent {
+    fn push(&mut self, now: u64, number: u64, timestamp: u64, payload: &[u8]) -> u64 {
+        let c = &self.session.config;
+        let datagram = header(c.pt, number as u16, timestamp as u32, c.ssrc, payload);
+        let pushed = lend!(bizhgemu_push, self.session, self.storage, now, datagram.as_ptr(), datagram.len());
+        self.session = pushed.session;
+        pushed.refusal
+    }
+
+    /// The number after the highest, one tick later.
+    fn push_next(&mut self, now: u64, payload: &[u8]) -> u64 {
+        self.push(now, self.session.last_number + 1, self.session.last_timestamp + 1, payload)
+    }
+
+    /// The highest number once more, one tick later: dropped.
+    fn push_again(&mut self, now: u64) -> u64 {
+        self.push(now, self.session.last_number, self.session.last_timestamp + 1, &[9])
+    }
+
+    /// A repair, one tick after the highest number.
+    fn repair(&mut self, now: u64, number: u64, payload: &[u8]) -> u64 {
+        let c = &self.session.config;
+        let payload = [&(number as u16).to_be_bytes(), payload].concat();
+        let datagram = header(c.rtx_pt, 1, (self.session.last_timestamp + 1) as u32, c.rtx_ssrc, &payload);
+        let pushed = lend!(bizhgemu_push_rtx, self.session, self.storage, now, datagram.as_ptr(), datagram.len());
+        self.session = pushed.session;
+        pushed.refusal
+    }
+
+    fn poll(&mut self, now: u64) -> u64 {
+        let (place, length) = (self.payload.as_mut_ptr(), self.payload.len());
+        let polled = lend!(bizhgemu_poll, self.session, self.storage, now, place, length);
+        self.session = polled.session;
+        polled.refusal
+    }
+
+    fn poll_nack(&mut self, now: u64) -> u64 {
+        let (place, length) = (self.numbers.as_mut_ptr(), self.numbers.len());
+        let polled = lend!(bizhgemu_poll_nack, self.session, self.storage, now, place, length);
+        self.session = polled.session;
+        polled.refusal
+    }
+}
+
+/// A call at an instant.
+type Call = fn(&mut Lent, u64) -> u64;
+
+/// The eight calls, and the figures, which are lent no storage.
+const CALLS: [Call; 9] = [
+    |l, now| l.push_next(now, &[9]),
+    |l, now| l.repair(now, 14, &[9]),
+    Lent::poll,
+    Lent::poll_nack,
+    |l, now| lend!(bizhgemu_timeout_receive, l.session, l.storage, now).refusal,
+    |l, now| lend!(bizhgemu_timeout_nack, l.session, l.storage, now).refusal,
+    |l, _| lend!(bizhgemu_rtx_stats, l.session, l.storage).refusal,
+    |l, _| lend!(bizhgemu_highest_sequence_number_received, l.session, l.storage).refusal,
+    |l, _| ffi::bizhgemu_figures(l.session).refusal,
+];
+
+/// What a call on a copy answers; that a refused one changes nothing is asserted.
+fn refusal(lent: &Lent, now: u64, call: Call) -> u64 {
+    let mut copy = lent.clone();
+    let number = call(&mut copy, now);
+    assert!(number == 0 || copy == *lent, "refused under {number}, and not as it was");
+    number
+}
+
+/// What each of `CALLS` answers.
+fn refusals(lent: &Lent, now: u64) -> [u64; 9] {
+    CALLS.map(|call| refusal(lent, now, call))
 }
 
 /// The words of a session, so that NaN is compared too.
@@ -139,11 +209,10 @@ fn a_used_session_has_each_word_in_its_place() {
     let queue = used();
     let (jitter, loss) = (queue.session.jitter, queue.session.loss);
     assert!(jitter > 0.0 && loss > 0.0);
-    let ms = 1_000_000;
-    let settings = [100 * ms, 5 * ms, 20 * ms, 200 * ms, 3, 999, 8000, 3, 1, 1];
+    let settings = [100 * MS, 5 * MS, 20 * MS, 200 * MS, 3, 999, 8000, 3, 1, 1];
     let senders = [SSRC.into(), RTX.ssrc.into(), 5, 97];
-    let received = [126 * ms, 1, 121 * ms, 800, 15, 1, 12];
-    let repairs = [1, 2 * ms, ms, 1, 2, 3, 7];
+    let received = [126 * MS, 1, 121 * MS, 800, 15, 1, 12];
+    let repairs = [1, 2 * MS, MS, 1, 2, 3, 7];
     let counters = [4, 3, 22, 1];
     let floats = [8000f64.to_bits(), jitter.to_bits()];
     let lists = [2, 1, 1, u64::from(loss.to_bits())];
@@ -151,129 +220,329 @@ fn a_used_session_has_each_word_in_its_place() {
     assert_eq!(words(&queue.session), expected);
 }
 
-/// One element less or more, the others as they were.
-fn resized<T: Clone + Default>(slice: &mut Box<[T]>, by: isize) {
+/// A slice of another length, the elements as they were.
+fn resize<T: Clone + Default>(slice: &mut Box<[T]>, length: usize) {
     let mut elements = slice.to_vec();
-    elements.resize(slice.len().wrapping_add_signed(by), T::default());
+    elements.resize(length, T::default());
     *slice = elements.into();
 }
 
 #[test]
-fn a_wrong_length_is_refused() {
-    let resizings: [fn(&mut Storage, isize); 4] = [
-        |storage, by| resized(&mut storage.entries, by),
-        |storage, by| resized(&mut storage.payloads, by),
-        |storage, by| resized(&mut storage.gaps, by),
-        |storage, by| resized(&mut storage.remembered, by),
-    ];
-    for resize in resizings {
-        for by in [-1, 1] {
-            let mut queue = used();
-            resize(&mut queue.storage, by);
-            assert_eq!(refusals(&queue), [16, 16, 16, 16, 16, 16, 16, 16, 0]);
-            let before = queue.storage.clone();
-            assert_eq!(queue.storage.open(config().words()).refusal, 16);
-            assert_eq!(queue.storage, before);
-        }
-    }
-}
-
-#[test]
-fn a_short_output_is_refused() {
-    let queue = used();
-    let (session, mut storage, now) = (queue.session, queue.storage.clone(), queue.session.clock);
-    let mut payload = [0; LONGEST_PAYLOAD - 1];
-    let mut numbers = [0; 998];
-    let polled = lend!(bizhgemu_poll, session, storage, now, payload.as_mut_ptr(), payload.len());
-    let nacked = lend!(bizhgemu_poll_nack, session, storage, now, numbers.as_mut_ptr(), numbers.len());
-    assert_eq!((polled.refusal, nacked.refusal), (15, 15));
-    assert_eq!(storage, queue.storage);
-}
-
-#[test]
-fn damaged_words_are_refused() {
-    let damages: [fn(&mut ffi::Session); 24] = [
-        |s| s.config.mode = 2,
-        |s| s.config.has_rtx = 2,
-        |s| s.has_last = 2,
-        |s| s.has_returned = 1 << 63,
-        |s| s.has_rtt = u64::MAX,
-        |s| s.config.clock_rate = 0,
-        |s| s.config.max_nack_attempts = 256,
-        |s| s.config.pt = 128,
-        |s| s.config.delay = 60_000_000_001,
-        |s| s.last_instant = s.clock + 1,
-        |s| s.last_number = 1 << 52,
-        |s| s.last_timestamp = 1 << 52,
-        |s| s.returned = s.last_number + 1,
-        |s| s.srtt = 1 << 52,
-        |s| s.variation = 1 << 52,
-        |s| s.rtx_bytes = 1 << 52,
-        |s| s.received = 1 << 52,
-        |s| s.lost = u64::MAX,
-        |s| s.jitter_clock_rate = 8001.0,
-        |s| s.jitter = -1.0,
-        |s| s.jitter = f64::NAN,
-        |s| s.loss = 1.5,
-        |s| s.loss = f32::NAN,
-        |s| s.has_last = 0,
-    ];
-    for (place, damage) in damages.iter().enumerate() {
-        let mut queue = used();
-        damage(&mut queue.session);
-        assert_eq!(refusals(&queue)[..8], [16; 8], "damage {place}");
-    }
-}
-
-#[test]
-fn damaged_counts_and_storage_are_refused() {
-    let damages: [fn(&mut Queue); 9] = [
-        |q| q.session.entries = 7,
-        |q| q.session.entries = usize::MAX,
-        |q| q.session.gaps = 1000,
-        |q| q.session.remembered = 1025,
-        |q| q.storage.entries[0] = 16,
-        |q| q.storage.entries[3] = 2 * 321,
-        |q| q.storage.gaps[0] = 13,
-        |q| q.storage.gaps[1] = u64::MAX,
-        |q| q.storage.remembered[1] = 1 << 52,
-    ];
-    for (place, damage) in damages.iter().enumerate() {
-        let mut queue = used();
-        damage(&mut queue);
-        assert_eq!(refusals(&queue)[..8], [16; 8], "damage {place}");
-    }
-}
-
-#[test]
 fn a_sound_session_is_not_refused() {
-    let queue = used();
-    let figures = ffi::bizhgemu_figures(queue.session);
-    assert_eq!(figures.refusal, 0);
-    let mut storage = queue.storage.clone();
-    let timeout = lend!(bizhgemu_timeout_nack, queue.session, storage, queue.session.clock);
-    assert_eq!((timeout.refusal, timeout.has_timeout), (0, 1));
+    let lent = lent();
+    assert_eq!(refusals(&lent, lent.session.clock), [0; 9]);
 }
 
 #[test]
 fn flags_that_are_not_flags_are_refused_at_the_opening() {
-    let mut queue = used();
+    let Queue { mut storage, .. } = used();
+    let before = storage.clone();
     for damage in [|c: &mut ffi::Config| c.mode = 2, |c: &mut ffi::Config| c.has_rtx = 3] {
         let mut words = config().words();
         damage(&mut words);
-        assert_eq!(queue.storage.open(words).refusal, 1);
+        assert_eq!(storage.open(words).refusal, 1);
+        assert_eq!(storage, before);
     }
+    assert_eq!(storage.open(config().words()).refusal, 0);
+}
+
+#[test]
+fn a_short_output_is_refused() {
+    let mut lent = lent();
+    let now = lent.session.clock;
+    assert_eq!((refusal(&lent, now, Lent::poll), refusal(&lent, now, Lent::poll_nack)), (0, 0));
+    lent.payload.pop();
+    lent.numbers.pop();
+    assert_eq!((refusal(&lent, now, Lent::poll), refusal(&lent, now, Lent::poll_nack)), (15, 15));
+}
+
+#[test]
+fn output_after_the_answer_keeps_its_bytes() {
+    let mut lent = lent();
+    assert_eq!((lent.poll_nack(130 * MS), lent.poll(300 * MS)), (0, 0));
+    assert_eq!((lent.numbers[0], lent.payload[0]), (14, 2));
+    assert!(lent.numbers[1..].iter().all(|number| *number == 0xaaaa));
+    assert!(lent.payload[1..].iter().all(|byte| *byte == 0xaa));
+}
+
+#[test]
+fn unused_places_are_cleared() {
+    let clean = lent();
+    let Storage { entries, gaps, remembered, .. } = &clean.storage;
+    assert!([&entries[8..], &gaps[4..], &remembered[2..]].concat().iter().all(|word| *word == 0));
+    let mut marked = clean.clone();
+    let Storage { entries, payloads, gaps, remembered } = &mut marked.storage;
+    entries[8..].fill(u64::MAX);
+    payloads[1..320].fill(0xff);
+    payloads[321..].fill(0xff);
+    gaps[4..].fill(u64::MAX);
+    remembered[2..].fill(u64::MAX);
+    for call in &CALLS[..8] {
+        let (mut clean, mut marked) = (clean.clone(), marked.clone());
+        let now = clean.session.clock;
+        assert_eq!((call(&mut clean, now), call(&mut marked, now)), (0, 0));
+        assert!(clean == marked);
+    }
+}
+
+#[test]
+fn an_instant_outside_is_refused() {
+    let mut lent = lent();
+    let clock = lent.session.clock;
+    for now in [clock, END] {
+        assert_eq!(refusals(&lent, now), [0; 9]);
+    }
+    for now in [clock - 1, END + 1, u64::MAX] {
+        assert_eq!(refusals(&lent, now), [8, 8, 8, 8, 8, 8, 0, 0, 0]);
+    }
+    // a clock past the end is not damage, but no instant is left
+    lent.session.clock = END + 1;
+    assert_eq!(refusals(&lent, END + 1), [8, 8, 8, 8, 8, 8, 0, 0, 0]);
 }
 
 #[test]
 fn an_instant_past_the_last_is_refused() {
     let mut queue = used();
-    let before = queue.session;
+    let Queue { session, storage, .. } = queue.clone();
     for late in [crate::LATEST + Duration::from_nanos(1), Duration::from_secs(1 << 40), Duration::MAX] {
         assert_eq!(queue.push(late, &media(16, 960, &[])), Err(Refusal::Clock));
+        assert_eq!(queue.push_rtx(late, &repair(14, 640, &[])), Err(Refusal::Clock));
         assert_eq!(queue.poll(late), Err(Refusal::Clock));
+        assert_eq!(queue.poll_nack(late), Err(Refusal::Clock));
         assert_eq!(queue.timeout(late), Err(Refusal::Clock));
     }
-    assert_eq!(queue.session, before);
+    assert_eq!((queue.session, &queue.storage), (session, &storage));
     assert!(queue.poll(crate::LATEST).is_ok());
+}
+
+/// Sets one thing: with `past` 0 to a value that is taken, the last of its range where it has one; with 1 to one that is not.
+type Set = fn(&mut Lent, u64);
+
+/// Each line is one condition of row 16. `figures` is what the figures answer: they look at no list.
+fn each_is_damage(lines: &[(&str, Set)], figures: u64) {
+    for (what, set) in lines {
+        let [mut sound, mut damaged] = [lent(), lent()];
+        set(&mut sound, 0);
+        set(&mut damaged, 1);
+        // 14 may catch the packet and the repair where a count is at its end
+        let [packet, repair, others @ ..] = refusals(&sound, sound.session.clock);
+        assert!([0, 14].contains(&packet) && [0, 14].contains(&repair) && others == [0; 7], "{what}: sound");
+        let [calls @ .., told] = refusals(&damaged, damaged.session.clock);
+        assert_eq!((calls, told), ([16; 8], figures), "{what}: damaged");
+    }
+}
+
+#[test]
+#[rustfmt::skip]
+fn a_wrong_length_is_refused() {
+    let lines: &[(&str, Set)] = &[
+        ("entries, one less", |l, past| resize(&mut l.storage.entries, 24 - past as usize)),
+        ("entries, one more", |l, past| resize(&mut l.storage.entries, 24 + past as usize)),
+        ("payloads, one less", |l, past| resize(&mut l.storage.payloads, 1920 - past as usize)),
+        ("payloads, one more", |l, past| resize(&mut l.storage.payloads, 1920 + past as usize)),
+        ("gaps, one less", |l, past| resize(&mut l.storage.gaps, 3996 - past as usize)),
+        ("gaps, one more", |l, past| resize(&mut l.storage.gaps, 3996 + past as usize)),
+        ("remembered, one less", |l, past| resize(&mut l.storage.remembered, 2048 - past as usize)),
+        ("remembered, one more", |l, past| resize(&mut l.storage.remembered, 2048 + past as usize)),
+    ];
+    each_is_damage(lines, 0);
+    for (what, set) in lines {
+        for (past, expected) in [(0, 0), (1, 16)] {
+            let mut lent = lent();
+            set(&mut lent, past);
+            let before = lent.storage.clone();
+            assert_eq!(lent.storage.open(config().words()).refusal, expected, "{what}");
+            assert_eq!(lent.storage == before, expected != 0, "{what}");
+        }
+    }
+}
+
+/// The clock rate, in the settings and in the jitter record.
+fn set_clock_rate(l: &mut Lent, rate: u64) {
+    l.session.config.clock_rate = rate as u32;
+    (l.session.jitter_clock_rate, l.session.jitter) = (rate as f64, 0.0);
+}
+
+/// D, with storage of its lengths.
+fn set_depth(l: &mut Lent, depth: u64) {
+    l.session.config.max_entries = depth as usize;
+    resize(&mut l.storage.entries, 8 * depth as usize);
+    resize(&mut l.storage.payloads, 640 * depth as usize);
+}
+
+/// G, with storage and output of its lengths.
+fn set_most_gaps(l: &mut Lent, most: u64) {
+    l.session.config.max_gaps = most as usize;
+    resize(&mut l.storage.gaps, 4 * most as usize);
+    l.numbers.resize(most as usize, 0xaaaa);
+}
+
+/// Every place in use: G gaps, 2 · D entries above them, 1,024 remembered.
+fn fill(l: &mut Lent) {
+    l.session.last_number = 3000;
+    (l.session.entries, l.session.gaps, l.session.remembered) = (6, 999, 1024);
+    for (gap, number) in l.storage.gaps.chunks_exact_mut(4).zip(1000..) {
+        gap.copy_from_slice(&[number, 0, 0, 0]);
+    }
+    for (entry, number) in l.storage.entries.chunks_exact_mut(4).zip(2000..) {
+        entry.copy_from_slice(&[number, 0, 0, 0]);
+    }
+}
+
+/// Two gaps, below the highest.
+fn set_gaps(l: &mut Lent, first: u64, second: u64) {
+    (l.session.gaps, l.session.last_number) = (2, 20);
+    l.storage.gaps.copy_within(0..4, 4);
+    (l.storage.gaps[0], l.storage.gaps[4]) = (first, second);
+}
+
+#[test]
+#[rustfmt::skip]
+fn damaged_words_are_refused() {
+    each_is_damage(&[
+        ("a flag: mode", |l, past| l.session.config.mode = 1 + past as u32),
+        ("a flag: RTX", |l, past| l.session.config.has_rtx = 1 + past as u32),
+        ("a flag: last packet", |l, past| l.session.has_last = 1 + past),
+        ("a flag: last returned", |l, past| l.session.has_returned = 1 << (63 * past)),
+        ("a flag: round trip", |l, past| l.session.has_rtt = [1, u64::MAX][past as usize]),
+        ("a setting: clock rate 0", |l, past| set_clock_rate(l, 1 - past)),
+        ("a setting: clock rate", |l, past| set_clock_rate(l, 1_000_000 + past)),
+        ("a setting: D of 0", |l, past| { l.session.entries = 0; set_depth(l, 1 - past) }),
+        ("a setting: D", |l, past| set_depth(l, 1024 + past)),
+        ("a setting: G of 998", |l, past| set_most_gaps(l, 999 - past)),
+        ("a setting: G", |l, past| set_most_gaps(l, 4096 + past)),
+        ("a setting: delay", |l, past| l.session.config.delay = MINUTE + past),
+        ("a setting: initial NACK delay", |l, past| l.session.config.initial_nack_delay = MINUTE + past),
+        ("a setting: resend delay", |l, past| l.session.config.default_nack_resend_delay = MINUTE + past),
+        ("a setting: NACK window", |l, past| l.session.config.nack_window = MINUTE + past),
+        ("a setting: no attempt", |l, past| l.session.config.max_nack_attempts = 1 - past as u32),
+        ("a setting: attempts", |l, past| l.session.config.max_nack_attempts = 255 + past as u32),
+        ("a setting: payload type", |l, past| l.session.config.pt = 127 + past as u8),
+        ("a setting: payload type of repairs", |l, past| l.session.config.rtx_pt = 127 + past as u8),
+        // in passthrough: there entries and gaps may stand at or below the last returned
+        ("a last returned above the highest", |l, past| { l.session.config.mode = 0; l.session.returned = 15 + past }),
+        ("a last returned before media", |l, past| { (l.session.entries, l.session.gaps, l.session.has_last) = (0, 0, 1 - past) }),
+        ("an instant: the last packet's", |l, past| l.session.last_instant = l.session.clock + past),
+        ("an extended value: the highest", |l, past| l.session.last_number = END + past),
+        ("an extended value: its timestamp", |l, past| l.session.last_timestamp = END + past),
+        ("a counter: dropped", |l, past| l.session.dropped = END + past),
+        ("a counter: received", |l, past| l.session.received = END + past),
+        ("a counter: bytes", |l, past| l.session.bytes = END + past),
+        ("a counter: lost", |l, past| l.session.lost = END + past),
+        ("a counter: repairs in time", |l, past| l.session.rtx_in_time = END + past),
+        ("a counter: too late", |l, past| l.session.rtx_too_late = END + past),
+        ("a counter: redundant", |l, past| l.session.rtx_redundant = END + past),
+        ("a counter: their bytes", |l, past| l.session.rtx_bytes = END + past),
+        ("srtt", |l, past| l.session.srtt = END + past),
+        ("variation", |l, past| l.session.variation = END + past),
+        ("jitter's clock rate", |l, past| l.session.jitter_clock_rate = 8000.0 + past as f64),
+        ("jitter below 0", |l, past| l.session.jitter = 0.0 - past as f64),
+        ("jitter above the clock rate", |l, past| l.session.jitter = f64::from_bits(8000f64.to_bits() + past)),
+        // not the NaN that arithmetic gives: its bits come back too
+        ("jitter not a number", |l, past| l.session.jitter = [0.0, f64::from_bits(0x7ff4_0000_0000_0001)][past as usize]),
+        ("loss below 0", |l, past| l.session.loss = 0.0 - past as f32),
+        ("loss above 1", |l, past| l.session.loss = f32::from_bits(1f32.to_bits() + past as u32)),
+        ("loss not a number", |l, past| l.session.loss = [0.0, f32::from_bits(0x7fa0_0001)][past as usize]),
+    ], 16);
+}
+
+#[test]
+#[rustfmt::skip]
+fn damaged_counts_and_storage_are_refused() {
+    each_is_damage(&[
+        ("more than 2 · D entries", |l, past| { fill(l); l.session.entries += past as usize }),
+        ("more than G gaps", |l, past| { fill(l); l.session.gaps += past as usize }),
+        ("more than 1,024 remembered", |l, past| { fill(l); l.session.remembered += past as usize }),
+        ("more entries than memory has", |l, past| { fill(l); l.session.entries = [6, usize::MAX][past as usize] }),
+        ("an entry twice", |l, past| l.storage.entries[4] = 15 - 2 * past),
+        ("entries exchanged", |l, past| (l.storage.entries[0], l.storage.entries[4]) = (13 + 2 * past, 15 - 2 * past)),
+        ("a gap twice", |l, past| set_gaps(l, 14, 17 - 3 * past)),
+        ("gaps exchanged", |l, past| set_gaps(l, 14 + 3 * past, 17 - 3 * past)),
+        ("an entry's number in both", |l, past| l.storage.entries[0] = 13 + past),
+        ("a gap's number in both", |l, past| l.storage.gaps[0] = 14 - past),
+        ("an entry above the highest", |l, past| l.storage.entries[4] = 15 + past),
+        ("a gap above the highest", |l, past| l.storage.gaps[0] = 14 + 2 * past),
+        // mode 0 is passthrough, 1 is sorted
+        ("an entry at the last returned", |l, past| { l.session.config.mode = past as u32; l.storage.entries[0] = 12 }),
+        ("an entry below the last returned", |l, past| { l.session.config.mode = past as u32; l.storage.entries[0] = 11 }),
+        ("a gap at the last returned", |l, past| { l.session.config.mode = past as u32; l.storage.gaps[0] = 12 }),
+        ("a gap below the last returned", |l, past| { l.session.config.mode = past as u32; l.storage.gaps[0] = 11 }),
+        // 13 alone waits
+        ("a gap at the highest", |l, past| { l.session.entries = 1; l.storage.gaps[0] = 14 + past }),
+        ("an entry before media", |l, past| { (l.session.gaps, l.session.has_returned, l.session.has_last) = (0, 0, 1 - past) }),
+        ("a gap before media", |l, past| { (l.session.entries, l.session.has_returned, l.session.has_last) = (0, 0, 1 - past) }),
+        // the word is twice the length, and 1 for the marker
+        ("a payload over 320", |l, past| l.storage.entries[3] = 2 * (320 + past) + 1),
+        ("a payload past every length", |l, past| l.storage.entries[7] = [2, u64::MAX][past as usize]),
+        // the word is the instant and 1 more
+        ("an instant: an arrival", |l, past| l.storage.entries[2] = l.session.clock + 1 + past),
+        ("an instant: an arrival past every one", |l, past| l.storage.entries[6] = [1, u64::MAX][past as usize]),
+        ("an instant: a detection", |l, past| l.storage.gaps[1] = l.session.clock + past),
+        ("an instant: a gap's NACK", |l, past| l.storage.gaps[3] = l.session.clock + past),
+        ("an instant: a remembered NACK", |l, past| l.storage.remembered[1] = l.session.clock + past),
+        ("an extended value: an entry's timestamp", |l, past| l.storage.entries[1] = END + past),
+        ("an extended value: a remembered number", |l, past| l.storage.remembered[0] = END + past),
+    ], 0);
+}
+
+/// Passthrough, and 14 NACKed as often as it may be.
+fn try_all(l: &mut Lent) {
+    l.session.config.mode = 0;
+    l.storage.gaps[2] = 3;
+}
+
+#[test]
+#[rustfmt::skip]
+fn a_count_past_its_end_is_refused() {
+    // the call takes it one further: to its end, or past it
+    let lines: &[(&str, Set, Call)] = &[
+        ("a packet's number", |l, past| l.session.last_number = END - 1 + past, |l, now| l.push_next(now, &[9])),
+        ("a repair's number", |l, past| l.session.last_number = END - 1 + past, |l, now| l.repair(now, l.session.last_number + 1, &[9])),
+        ("a packet's timestamp", |l, past| l.session.last_timestamp = END - 1 + past, |l, now| l.push_next(now, &[9])),
+        ("a dropped packet's", |l, past| l.session.last_timestamp = END - 1 + past, Lent::push_again),
+        ("a repair's", |l, past| l.session.last_timestamp = END - 1 + past, |l, now| l.repair(now, 14, &[9])),
+        ("received", |l, past| l.session.received = END - 1 + past, |l, now| l.push_next(now, &[9])),
+        ("bytes", |l, past| l.session.bytes = END - 1 + past, |l, now| l.push_next(now, &[9])),
+        ("dropped", |l, past| l.session.dropped = END - 1 + past, Lent::push_again),
+        // D is 3: with 16 three wait, and 17 pushes 13 out
+        ("pushed out", |l, past| { l.push_next(l.session.clock, &[]); l.session.dropped = END - 1 + past }, |l, now| l.push_next(now, &[])),
+        ("repairs in time", |l, past| l.session.rtx_in_time = END - 1 + past, |l, now| l.repair(now, 14, &[9])),
+        ("their bytes", |l, past| l.session.rtx_bytes = END - 1 + past, |l, now| l.repair(now, 14, &[9])),
+        ("redundant", |l, past| l.session.rtx_redundant = END - 1 + past, |l, now| l.repair(now, 13, &[9])),
+        ("too late", |l, past| l.session.rtx_too_late = END - 1 + past, |l, now| l.repair(now, 10, &[9])),
+        // 13 goes out first, and none is lost; with 15 it is 14
+        ("lost, sorted", |l, past| { l.poll(300 * MS); l.session.lost = END - 1 + past }, Lent::poll),
+        ("lost, passthrough", |l, past| { try_all(l); l.session.lost = END - 1 + past }, Lent::poll),
+        ("lost by poll_nack", |l, past| { try_all(l); l.session.lost = END - 1 + past }, Lent::poll_nack),
+        // due 2 + 1.5 · 1 ms after 126 ms
+        ("a NACK count", |l, past| l.storage.gaps[2] = (1 << 32) - 2 + past, |l, _| l.poll_nack(130 * MS)),
+    ];
+    for (what, set, call) in lines {
+        for (past, expected) in [(0, 0), (1, 14)] {
+            let mut lent = lent();
+            set(&mut lent, past);
+            assert_eq!(refusal(&lent, lent.session.clock, *call), expected, "{what}");
+        }
+    }
+}
+
+#[test]
+#[rustfmt::skip]
+fn a_count_at_its_end_that_is_not_raised_may_stand() {
+    let lines: &[(&str, Set, Call)] = &[
+        ("received, and one dropped", |l, _| l.session.received = END, Lent::push_again),
+        ("bytes, and no payload", |l, _| l.session.bytes = END, |l, now| l.push_next(now, &[])),
+        ("dropped, and one queued", |l, _| l.session.dropped = END, |l, now| l.push_next(now, &[9])),
+        ("bytes of repairs, and no payload", |l, _| l.session.rtx_bytes = END, |l, now| l.repair(now, 14, &[])),
+        ("in time, and one redundant", |l, _| l.session.rtx_in_time = END, |l, now| l.repair(now, 13, &[9])),
+        ("lost, and none is", |l, _| l.session.lost = END, |l, _| l.poll(300 * MS)),
+        // 129 ms is before it is due again
+        ("a NACK count", |l, _| l.storage.gaps[2] = (1 << 32) - 1, |l, _| l.poll_nack(129 * MS)),
+        ("a NACK count past its end", |l, _| l.storage.gaps[2] = u64::MAX, |l, _| l.poll_nack(129 * MS)),
+    ];
+    for (what, set, call) in lines {
+        let mut lent = lent();
+        set(&mut lent, 0);
+        assert_eq!(refusal(&lent, lent.session.clock, *call), 0, "{what}");
+    }
 }

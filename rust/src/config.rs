@@ -38,7 +38,7 @@ pub struct Config {
     pub clock_rate: u32,
     /// How long a sorted queue keeps a packet, at most 60 s. Default: 100 ms.
     pub delay: Duration,
-    /// Depth D: packets kept, 1 to 1,024. At least `delay` / packet time, twice that with repairs. Default: 100.
+    /// Depth D: packets kept, 1 to 1,024. At least `delay` / packet time + 1, twice that with repairs. Default: 100.
     pub max_entries: usize,
     /// Most missing numbers at a time, G: 999 to 4,096. Default: 999.
     pub max_gaps: usize,

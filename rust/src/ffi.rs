@@ -1,6 +1,7 @@
 //! The boundary as it is exported: declarations only. include/bizhgemu.h has the same for C, with a comment for each.
 //!
-//! Nothing compares these with the library but the assertions below and the tests that send distinct values through.
+//! rust/tests/declarations.rs compares them with the library's and the header's, field by field; the assertions below fix their layout, and
+//! tests send distinct values through.
 
 use std::mem::{offset_of, size_of};
 

@@ -32,7 +32,7 @@ pub enum Refusal {
     GapsFull,
     /// 13: a repair with `2 * max_entries` packets waiting.
     EntriesFull,
-    /// 14: a number, timestamp or counter would pass 2^52 - 1.
+    /// 14: a number, timestamp or counter would pass 2^52 - 1, or a NACK count 2^32 - 1.
     Count,
     /// 15: the lent output is too short. [`Queue`](crate::Queue) never lends one that is.
     Output,
@@ -59,12 +59,12 @@ const TABLE: [(Refusal, &str, &str); 16] = [
     ),
     (
         Refusal::Padding,
-        "the datagram's padding is longer than the datagram, or counts nothing",
+        "the datagram's padding counts 0 bytes, or more than follow the header",
         "drop it; the sender or the way is damaging packets",
     ),
     (
         Refusal::PayloadTooLarge,
-        "the payload is over 320 bytes",
+        "the payload is over 320 bytes (of a repair: over 322)",
         "set the sender to 20 ms packets; each such packet is counted as lost later",
     ),
     (
@@ -103,7 +103,11 @@ const TABLE: [(Refusal, &str, &str); 16] = [
         "a repair came while twice `max_entries` packets wait",
         "poll until nothing is handed out; raise `max_entries`",
     ),
-    (Refusal::Count, "a number, timestamp or counter would pass 2^52 - 1", "open a new session"),
+    (
+        Refusal::Count,
+        "a number, timestamp or counter would pass 2^52 - 1, or a NACK count 2^32 - 1",
+        "open a new session",
+    ),
     (
         Refusal::Output,
         "the lent output is too short",

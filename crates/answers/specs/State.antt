@@ -21,16 +21,16 @@ use Rattle.rtp.specs.declared.opt.Opt.{Opt}
 use Rattle.rtp.specs.declared.opt.Opt.the-variants as Opt
 use Rattle.answers.specs.Lines.{lineFeed, flagText}
 
-abbrev pub none : List ℕ
-none = field (ascii "-")
+abbrev pub noneField : List ℕ
+noneField = field (ascii "-")
 
 -- "the 16 hexadecimal digits of the f64's bits"; `-` for a NaN, which no sound session holds
 unfoldable pub bits64Text : Float → List ℕ
-bits64Text x = cond (eq x x) (field (hexDigits 16 (toBits binary64 x))) none
+bits64Text x = cond (eq x x) (field (hexDigits 16 (toBits binary64 x))) noneField
 
 -- "the 8 hexadecimal digits of the f32's bits"
 unfoldable pub bits32Text : Float → List ℕ
-bits32Text x = cond (eq x x) (field (hexDigits 8 (toBits binary32 x))) none
+bits32Text x = cond (eq x x) (field (hexDigits 8 (toBits binary32 x))) noneField
 
 -- CLOCK RECEIVED BYTES DROPPED LOST JITTER LOSS
 unfoldable pub queueFields : Queue → List (List ℕ)
@@ -45,7 +45,7 @@ receivedFields (LastReceived.Some r) = field (decimal (r .instant)) ∷ (field (
 
 -- RETURNED
 unfoldable pub returnedField : LastReturned → List ℕ
-returnedField LastReturned.None = none
+returnedField LastReturned.None = noneField
 returnedField (LastReturned.Some n) = field (decimal (n .0))
 
 -- SRTT VARIATION

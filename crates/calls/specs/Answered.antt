@@ -3,7 +3,7 @@ use mathlib.Core.Path.{_≡_}
 use mathlib.Core.List.{List}
 use Prim.Native.Nat.{ℕ}
 use lib.ListN.{replicate}
-use Rattle.model.specs.Storage.{Stored}
+use Rattle.model.specs.Storage.{Stored, PAYLOAD-BYTES}
 use Rattle.model.specs.Calls as Calls
 use Rattle.model.specs.Calls.{Answer}
 use Rattle.model.specs.Contract.{Does}
@@ -34,7 +34,7 @@ OneLine = (call : Calls.Call) (before a b : Stored) (had p q : Output) → Answe
 
 -- 320 bytes are lent to `poll`, and numbers for the largest G to `poll_nack`
 abbrev pub pollCall : ℕ → Calls.Call
-pollCall now = Calls.poll now (replicate 320 0)
+pollCall now = Calls.poll now (replicate PAYLOAD-BYTES 0)
 
 abbrev pub nackCall : ℕ → Calls.Call
 nackCall now = Calls.pollNack now (replicate 4096 0)

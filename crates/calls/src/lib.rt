@@ -5,6 +5,7 @@ ghost use Rattle.model.specs.Calls as Calls;
 ghost use Rattle.model.specs.Contract.{before, after};
 ghost use Rattle.put.specs.Text.{output};
 ghost use Rattle.calls.specs.Answered.{Answered, OneLine, pollCall, nackCall, queueCall, sessionCall, sizeOf};
+use config::MAX_GAPS;
 use model::Session;
 use reading::ReadingCall;
 use trace::Call;
@@ -12,9 +13,6 @@ use trace::Datagram;
 
 pub mod opening;
 pub mod reading;
-
-// The largest G (01, refusal 1).
-pub const MAX_GAPS: usize = 4096;
 
 // The calls of a trace that are made on a session, with their NOW. The bytes of a datagram stand beside them.
 pub enum SessionCall {

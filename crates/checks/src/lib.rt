@@ -10,7 +10,7 @@ use model::LastReceived;
 use model::LastReturned;
 use model::Queue;
 
-// 8
+// 8: "instant above 2^52 − 1, or before the latest accepted one".
 pub fn clock_refusal(q: Queue, now: u64) -> u64
     ensures { λ r. ⌜ r ≡ Table.clockRefusal q now ⌝ }
 {
@@ -23,7 +23,7 @@ pub fn clock_refusal(q: Queue, now: u64) -> u64
     0
 }
 
-// 9
+// 9: "session without RTX".
 pub fn rtx_refusal(q: Queue) -> u64
     ensures { λ r. ⌜ r ≡ Table.rtxRefusal q ⌝ }
 {
@@ -34,7 +34,7 @@ pub fn rtx_refusal(q: Queue) -> u64
     }
 }
 
-// 10
+// 10: "no media packet yet".
 pub fn media_first_refusal(q: Queue) -> u64
     ensures { λ r. ⌜ r ≡ Table.mediaFirstRefusal q ⌝ }
 {
@@ -45,7 +45,7 @@ pub fn media_first_refusal(q: Queue) -> u64
     }
 }
 
-// 1
+// 1: the settings and the senders.
 pub fn config_valid(c: Config) -> bool
     ensures { λ r. ⌜ r ≡ Table.configValid c ⌝ }
 {

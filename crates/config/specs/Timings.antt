@@ -1,4 +1,4 @@
--- 003: the delays before a gap is NACKed, first and again, and the delay of a sorted queue, all in nanoseconds.
+-- 003; 01, "Gap" and "Repair state": the delays before a gap is NACKed, first and again, and the delay of a sorted queue, all in nanoseconds.
 use Prim.Native.Nat.{ℕ}
 use Rattle.rtx_state.specs.RoundTrip.{nackResendDelay}
 use Rattle.rtx_state.specs.declared.OptRtt.{OptRtt}

@@ -1,12 +1,30 @@
 // Settings (003) of a session, flat: the opening checks every field, whether the mode uses it or not (01, refusal 1).
 ghost use mathlib.Core.Path.{_≡_};
 ghost use Rattle.config.specs.Timings.{nackTimings, targetDelay};
-ghost use Rattle.config.specs.Valid.{settingsValid, sendersValid};
+ghost use Rattle.config.specs.Valid.{depthValid, gapsValid, settingsValid, sendersValid};
 use rtp::Ssrc;
 use rtx_state::OptRtt;
 
-// The longest duration of a setting, a minute.
+// The ranges of refusal 1 (01, "Where a call is turned back").
+
+// Ticks of the RTP clock in a second.
+const MAX_CLOCK_RATE: u32 = 1000000;
+
+// The largest D: entries.
+pub const MAX_DEPTH: usize = 1024;
+
+// The least and the largest G: gaps.
+const MIN_GAPS: usize = 999;
+
+pub const MAX_GAPS: usize = 4096;
+
+// The longest duration of a setting, a minute in nanoseconds.
 pub const LONGEST: u64 = 60000000000;
+
+const MAX_ATTEMPTS: u32 = 255;
+
+// Seven bits (RFC 3550, 5.1).
+const MAX_PAYLOAD_TYPE: u8 = 127;
 
 pub enum RtpInboundQueueMode {
     // Packets are handed out at once.
@@ -48,6 +66,20 @@ pub struct NackTimings {
     pub resend: u64,
 }
 
+// "D outside 1 to 1,024" is refused.
+pub fn depth_valid(depth: usize) -> bool
+    ensures { λ r. ⌜ r ≡ depthValid depth ⌝ }
+{
+    (1 <= depth) & (depth <= MAX_DEPTH)
+}
+
+// "G outside 999 to 4,096" is refused.
+pub fn gaps_valid(gaps: usize) -> bool
+    ensures { λ r. ⌜ r ≡ gapsValid gaps ⌝ }
+{
+    (MIN_GAPS <= gaps) & (gaps <= MAX_GAPS)
+}
+
 impl Settings {
     pub fn nack_timings(self, rtt: OptRtt) -> NackTimings
         ensures { λ r. ⌜ r ≡ nackTimings self rtt ⌝ }
@@ -72,14 +104,14 @@ impl Settings {
     pub fn is_valid(self) -> bool
         ensures { λ r. ⌜ r ≡ settingsValid self ⌝ }
     {
-        ((1 <= self.clock_rate) & (self.clock_rate <= 1000000))
-            & ((1 <= self.max_entries) & (self.max_entries <= 1024))
-            & ((999 <= self.max_gaps) & (self.max_gaps <= 4096))
+        ((1 <= self.clock_rate) & (self.clock_rate <= MAX_CLOCK_RATE))
+            & depth_valid(self.max_entries)
+            & gaps_valid(self.max_gaps)
             & (self.delay <= LONGEST)
             & (self.initial_nack_delay <= LONGEST)
             & (self.default_nack_resend_delay <= LONGEST)
             & (self.nack_window <= LONGEST)
-            & ((1 <= self.max_nack_attempts) & (self.max_nack_attempts <= 255))
+            & ((1 <= self.max_nack_attempts) & (self.max_nack_attempts <= MAX_ATTEMPTS))
     }
 }
 
@@ -88,6 +120,6 @@ impl Senders {
     pub fn is_valid(self) -> bool
         ensures { λ r. ⌜ r ≡ sendersValid self ⌝ }
     {
-        (self.pt <= 127) & (self.rtx_pt <= 127)
+        (self.pt <= MAX_PAYLOAD_TYPE) & (self.rtx_pt <= MAX_PAYLOAD_TYPE)
     }
 }

@@ -6,12 +6,11 @@ use mathlib.Core.List.{List, []}
 use Prim.Native.Nat.{ℕ, _*_}
 use Rattle.refusals.specs.Refusals.{SETTINGS, SESSION}
 use Rattle.jitter.specs.Interarrival.{jitterGet}
-use Rattle.config.specs.Valid.{within}
+use Rattle.config.specs.Valid.{depthValid, gapsValid}
 use Rattle.model.specs.declared.Queue.{Queue}
-use Rattle.model.specs.Rules.{MAX-LOST-NACKED}
 use Rattle.model.specs.Valid.{queueSound}
 use Rattle.model.specs.Records.{newState}
-use Rattle.model.specs.Storage.{Storage, Stored, write, ENTRY-WORDS, PAYLOAD-BYTES, GAP-WORDS, REMEMBERED-WORDS}
+use Rattle.model.specs.Storage.{Storage, Stored, write, entriesLength, payloadsLength, gapsLength, rememberedLength}
 use Rattle.model.specs.Calls as Calls
 use Rattle.model.specs.Calls.{Answer, Call, outputOf}
 use Rattle.model.specs.Table.{configValid, openingRefusal}
@@ -105,12 +104,12 @@ noLengths = record { refusal = SETTINGS; entries = 0; payloads = 0; gaps = 0; re
 -- the lengths that 16 asks for, by D and G
 unfoldable pub lengths : ℕ → ℕ → Lengths
 lengths entries gaps =
-    cond (within 1 1024 entries && within 999 4096 gaps)
+    cond (depthValid entries && gapsValid gaps)
     (record {
       refusal = 0;
-      entries = ENTRY-WORDS * (2 * entries);
-      payloads = PAYLOAD-BYTES * (2 * entries);
-      gaps = GAP-WORDS * gaps;
-      remembered = REMEMBERED-WORDS * MAX-LOST-NACKED;
+      entries = entriesLength entries;
+      payloads = payloadsLength entries;
+      gaps = gapsLength gaps;
+      remembered = rememberedLength;
     })
     noLengths

@@ -8,6 +8,8 @@ ghost use Rattle.ffi_words.specs.Told as Told;
 ghost use Rattle.ffi.specs.Exported as Exported;
 ghost use Rattle.ffi.specs.Exported.{Follows, Gives, alone, openedWords};
 ghost use Rattle.ffi.specs.Runs.{EveryRunInWords};
+use entries::ENTRY_WORDS;
+use entries::PAYLOAD_BYTES;
 use ffi_words::ConfigWords;
 use ffi_words::SessionWords;
 use ffi_words::answers;
@@ -20,7 +22,10 @@ use ffi_words::answers::PolledNack;
 use ffi_words::answers::Pushed;
 use ffi_words::answers::RtxStats;
 use ffi_words::answers::Timeout;
+use lost_nacked::MAX_LOST_NACKED;
+use lost_nacked::REMEMBERED_WORDS;
 use model::Queue;
+use packet_gaps::GAP_WORDS;
 use poll::nack;
 use push::rtx;
 use queue::open;
@@ -271,25 +276,19 @@ fn no_lengths() -> Lengths
 pub extern "C" fn bizhgemu_lengths(max_entries: usize, max_gaps: usize) -> Lengths
     ensures { λ r. ⌜ r ≡ Exported.lengths «max_entries» «max_gaps» ⌝ }
 {
-    if max_entries < 1 {
+    if !config::depth_valid(max_entries) {
         return no_lengths();
     }
-    if 1024 < max_entries {
-        return no_lengths();
-    }
-    if max_gaps < 999 {
-        return no_lengths();
-    }
-    if 4096 < max_gaps {
+    if !config::gaps_valid(max_gaps) {
         return no_lengths();
     }
     let places = 2 * max_entries;
     Lengths {
         refusal: 0,
-        entries: 4 * places,
-        payloads: 320 * places,
-        gaps: 4 * max_gaps,
-        remembered: 2048,
+        entries: ENTRY_WORDS * places,
+        payloads: PAYLOAD_BYTES * places,
+        gaps: GAP_WORDS * max_gaps,
+        remembered: REMEMBERED_WORDS * MAX_LOST_NACKED,
     }
 }
 

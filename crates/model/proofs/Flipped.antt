@@ -6,7 +6,7 @@ use native.Mathlib.Omega.{arith}
 use borrow.Author.Tests.{ne-eqb}
 use Rattle.refusals.specs.Refusals.{VERSION, PAYLOAD-TYPE, SSRC}
 use Rattle.refusals.proofs.Laws.{orElse-first, orElse-second, orElse-none}
-use Rattle.rtp_packet.specs.OneBit.{flip, inVersion, inPayloadType, inSsrc, Refuses}
+use Rattle.rtp_packet.specs.OneBit.{flipBit, inVersion, inPayloadType, inSsrc, Refuses}
 use Rattle.rtp_packet.proofs.OneBit.{one-bit}
 use Rattle.model.specs.Storage.{Stored}
 use Rattle.model.specs.Calls.{Call, media, repair}
@@ -22,7 +22,7 @@ refused-does k c m positive e = rw e (rw (ne-eqb k 0 (λ z. omega arith)) refl)
 of-media : (group : ℕ → ℕ → Bool) (k : ℕ) → 0 < k → Refuses group k → TurnedBack media group k
 unfolding refusal callRefusal mediaRefusal
 of-media group number positive law now d m e i k g =
-    refused-does number (media now (flip i k d)) m positive
+    refused-does number (media now (flipBit i k d)) m positive
     (let q = orElse-none _ _ e in
     let c = orElse-none _ _ (q .1) in
     let own = orElse-none _ _ (c .1) in
@@ -31,7 +31,7 @@ of-media group number positive law now d m e i k g =
 of-repair : (group : ℕ → ℕ → Bool) (k : ℕ) → 0 < k → Refuses group k → TurnedBack repair group k
 unfolding refusal callRefusal repairRefusal
 of-repair group number positive law now d m e i k g =
-    refused-does number (repair now (flip i k d)) m positive
+    refused-does number (repair now (flipBit i k d)) m positive
     (let q = orElse-none _ _ e in
     let c = orElse-none _ _ (q .1) in
     let x = orElse-none _ _ (c .1) in

@@ -5,7 +5,7 @@ use mathlib.Core.Bool.{Bool, true}
 use mathlib.Core.List.{List}
 use Prim.Native.Nat.{ℕ}
 use Rattle.refusals.specs.Refusals.{VERSION, PAYLOAD-TYPE, SSRC}
-use Rattle.rtp_packet.specs.OneBit.{flip, inVersion, inPayloadType, inSsrc}
+use Rattle.rtp_packet.specs.OneBit.{flipBit, inVersion, inPayloadType, inSsrc}
 use Rattle.model.specs.Storage.{Stored}
 use Rattle.model.specs.Calls.{Call, media, repair}
 use Rattle.model.specs.Table.{refusal}
@@ -15,7 +15,7 @@ use Rattle.model.specs.Did.{did, turnedBack}
 abbrev pub TurnedBack : (ℕ → List ℕ → Call) → (ℕ → ℕ → Bool) → ℕ → Type 0
 TurnedBack call group number =
     (now : ℕ) (d : List ℕ) (m : Stored) → refusal (call now d) m ≡ 0
-    → (i k : ℕ) → group i k ≡ true → did (call now (flip i k d)) m ≡ turnedBack number (call now (flip i k d)) m
+    → (i k : ℕ) → group i k ≡ true → did (call now (flipBit i k d)) m ≡ turnedBack number (call now (flipBit i k d)) m
 
 pub record FlippedBit : Type 0 where
   pub media-version : TurnedBack media inVersion VERSION

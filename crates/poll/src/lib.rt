@@ -195,7 +195,7 @@ fn effect_at(s: Session, entries: &[u64], gaps: &[u64], instant: u64) -> Effect
     }
 }
 
-// 14
+// 14, for the numbers that become lost.
 fn count_refusal(q: Queue, effect: Effect) -> u64
     requires { ⌜ q .counters .lost + (effect .given + effect .lost) < 2 ^ 64 ⌝ }
     ensures { λ r. ⌜ r ≡ Table.countRefusal ((q .counters .lost + (effect .given + effect .lost)) ∷ []) ⌝ }

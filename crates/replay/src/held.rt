@@ -1,10 +1,11 @@
 // A line's call, made on the session that is held.
 ghost use Prim.Native.Nat.{_≤_};
 use crate::lists;
-use calls::MAX_GAPS;
 use calls::OptSessionCall;
 use calls::SessionCall;
 use calls::opening;
+use config::MAX_DEPTH;
+use config::MAX_GAPS;
 use entries::ENTRY_WORDS;
 use entries::PAYLOAD_BYTES;
 use lost_nacked::MAX_LOST_NACKED;
@@ -15,18 +16,15 @@ use queue::Opening;
 use trace::Call;
 use trace::OpenFields;
 
-// The largest D (01, refusal 1).
-const MAX_ENTRIES: usize = 1024;
-
 // Each one of D asks for two places of an entry.
 const D_WORDS: usize = 2 * ENTRY_WORDS;
 
 const D_BYTES: usize = 2 * PAYLOAD_BYTES;
 
 // Storage for the largest session.
-pub const ENTRIES: usize = D_WORDS * MAX_ENTRIES;
+pub const ENTRIES: usize = D_WORDS * MAX_DEPTH;
 
-pub const PAYLOADS: usize = D_BYTES * MAX_ENTRIES;
+pub const PAYLOADS: usize = D_BYTES * MAX_DEPTH;
 
 pub const GAPS: usize = GAP_WORDS * MAX_GAPS;
 

@@ -1,5 +1,5 @@
 // Answers are gathered in a lent buffer, of which `at` bytes are filled, and written in blocks.
-use calls::MAX_GAPS;
+use config::MAX_GAPS;
 use libc::STDOUT_FILENO;
 
 // A block of answers.

@@ -8,7 +8,7 @@ use lib.Dec.{ltb}
 unfoldable pub apart : ℕ → ℕ → ℕ
 apart a b = (a - b) + (b - a)
 
--- "replace the low bits of the reference by the number received, giving the base"
+-- "replace the low .. bits of the reference by the number received, giving the base"
 unfoldable pub base : ℕ → ℕ → ℕ → ℕ
 base w reference got = reference / 2 ^ w * 2 ^ w + got
 

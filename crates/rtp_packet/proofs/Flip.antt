@@ -10,7 +10,7 @@ use lib.ListN.{length, length-set}
 use lib.Seq.{getD-set-same, getD-set-other}
 use borrow.Author.Tests.{eqb-true}
 use Rattle.rtp_packet.specs.Header.{byte, bit}
-use Rattle.rtp_packet.specs.OneBit.{flipped, flip}
+use Rattle.rtp_packet.specs.OneBit.{flipped, flipBit}
 
 weight-ge : (k : ℕ) → 1 ≤ 2 ^ k
 weight-ge k = one-le-pow k 2 (omega arith)
@@ -49,14 +49,14 @@ flipped-type i k d h e =
 
 -- ---- in the datagram
 
-pub flip-length : (i k : ℕ) (d : List ℕ) → length (flip i k d) ≡ length d
-unfolding flip
+pub flip-length : (i k : ℕ) (d : List ℕ) → length (flipBit i k d) ≡ length d
+unfolding flipBit
 flip-length i k d = length-set d i (flipped i k d)
 
-pub flip-at : (i k : ℕ) (d : List ℕ) → i < length d → byte (flip i k d) i ≡ flipped i k d
-unfolding flip
+pub flip-at : (i k : ℕ) (d : List ℕ) → i < length d → byte (flipBit i k d) i ≡ flipped i k d
+unfolding flipBit
 flip-at i k d h = getD-set-same d i (flipped i k d) 0 h
 
-pub flip-other : (i k j : ℕ) (d : List ℕ) → (j ≡ i → ⊥) → byte (flip i k d) j ≡ byte d j
-unfolding flip
+pub flip-other : (i k j : ℕ) (d : List ℕ) → (j ≡ i → ⊥) → byte (flipBit i k d) j ≡ byte d j
+unfolding flipBit
 flip-other i k j d h = getD-set-other d i j (flipped i k d) 0 h

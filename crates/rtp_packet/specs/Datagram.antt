@@ -25,12 +25,12 @@ wrongPadding d =
 
 -- The number under which a session that expects this payload type and SSRC, and payloads of at most so many bytes, refuses a datagram; 0: none.
 unfoldable pub datagramRefusal : ℕ → ℕ → ℕ → List ℕ → ℕ
-datagramRefusal expectedType expectedSsrc largest d =
+datagramRefusal expectedType expectedSsrc mostBytes d =
     cond (ltb (length d) 12) TRUNCATED
     (cond (not (eqb (version d) 2)) VERSION
     (cond (ltb (length d) (headerLength d)) TRUNCATED
     (cond (wrongPadding d) PADDING
-    (cond (ltb largest (length (payloadOf d))) PAYLOAD-TOO-LARGE
+    (cond (ltb mostBytes (length (payloadOf d))) PAYLOAD-TOO-LARGE
     (cond (not (eqb (payloadType d) expectedType)) PAYLOAD-TYPE
     (cond (not (eqb (ssrc d) expectedSsrc)) SSRC
     0))))))
@@ -51,4 +51,4 @@ abbrev pub packetUnless : ℕ → List ℕ → Parsed
 packetUnless refusal d = cond (eqb refusal 0) (Packet (packetOf d)) (Refused refusal)
 
 unfoldable pub parsed : ℕ → ℕ → ℕ → List ℕ → Parsed
-parsed expectedType expectedSsrc largest d = packetUnless (datagramRefusal expectedType expectedSsrc largest d) d
+parsed expectedType expectedSsrc mostBytes d = packetUnless (datagramRefusal expectedType expectedSsrc mostBytes d) d

@@ -13,8 +13,8 @@ use Rattle.rtp_packet.specs.Datagram.{datagramRefusal}
 unfoldable pub flipped : ℕ → ℕ → List ℕ → ℕ
 flipped i k d = cond (bit i k d) (byte d i - 2 ^ k) (byte d i + 2 ^ k)
 
-unfoldable pub flip : ℕ → ℕ → List ℕ → List ℕ
-flip i k d = set d i (flipped i k d)
+unfoldable pub flipBit : ℕ → ℕ → List ℕ → List ℕ
+flipBit i k d = set d i (flipped i k d)
 
 -- the bits of version, payload type and SSRC
 unfoldable pub inVersion : ℕ → ℕ → Bool
@@ -29,8 +29,8 @@ inSsrc i k = leb 8 i && leb i 11 && leb k 7
 -- the law for one group of bits and the number that it is refused under
 abbrev pub Refuses : (ℕ → ℕ → Bool) → ℕ → Type 0
 Refuses group number =
-    (expectedType expectedSsrc largest : ℕ) (d : List ℕ) → datagramRefusal expectedType expectedSsrc largest d ≡ 0
-    → (i k : ℕ) → group i k ≡ true → datagramRefusal expectedType expectedSsrc largest (flip i k d) ≡ number
+    (expectedType expectedSsrc mostBytes : ℕ) (d : List ℕ) → datagramRefusal expectedType expectedSsrc mostBytes d ≡ 0
+    → (i k : ℕ) → group i k ≡ true → datagramRefusal expectedType expectedSsrc mostBytes (flipBit i k d) ≡ number
 
 abbrev pub OneBit : Type 0
 OneBit = Refuses inVersion VERSION × (Refuses inPayloadType PAYLOAD-TYPE × Refuses inSsrc SSRC)

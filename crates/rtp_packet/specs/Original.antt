@@ -1,4 +1,4 @@
--- RFC 4588, section 4: the payload of a repair is the original sequence number (OSN), two bytes, and then the original payload.
+-- RFC 4588, section 4; 01, "Repair state" and row 11: the payload of a repair is the original sequence number (OSN), two bytes, and then the original payload.
 use mathlib.Core.Bool.{cond}
 use mathlib.Core.List.{List}
 use Prim.Native.Nat.{ℕ}

@@ -155,7 +155,7 @@ pub fn pushed_out(q: Queue, number: ExtendedSequenceNumber) -> Queue
     super::with_returned(next, number)
 }
 
-// 14 for one value.
+// 14, "would pass 2^52 − 1", for one value.
 pub fn count_refusal(value: u64) -> u64
     ensures { λ r. ⌜ r ≡ Table.countRefusal (value ∷ []) ⌝ }
 {
@@ -195,7 +195,7 @@ fn counters_refusal(c: Counters, size: u64, waits: bool, full: bool) -> u64
     0
 }
 
-// 14
+// 14 for what a packet works out, its timestamp and number, and for the counters that it would raise.
 pub fn counts_refusal(
     c: Counters,
     timestamp: ExtendedRtpTimestamp,

@@ -82,7 +82,7 @@ fn counters_refusal(rtx: RtxState, size: u64, fate: Fate) -> u64
     }
 }
 
-// 14
+// 14 for what a repair works out, its timestamp and number, and for the counters that it would raise.
 pub fn counts_refusal(
     rtx: RtxState,
     timestamp: ExtendedRtpTimestamp,

@@ -90,7 +90,7 @@ pub fn session_sound(
     lists_sound(s, entries, gaps, remembered)
 }
 
-// 16
+// 16: session or storage damaged.
 pub fn session_refusal(
     s: Session,
     entries: &[u64],
