@@ -17,7 +17,7 @@ returns c = cc
 
 returns-2 : tie.Need-returns-2
 unfolding reaches timestampOf
-returns-2 c = cc
+returns-2 c = rw (c .before .before .before .limit .given .1)
 
 pub reaches-spec : {M : Type 1} → statement M
 reaches-spec = tie.close (tie.spec enum-told enum-known-limit returns returns-2)
