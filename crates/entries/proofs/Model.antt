@@ -7,11 +7,10 @@ use lib.ListN.{length}
 use Rattle.words.proofs.Ordered.{and-right}
 use Rattle.durations.specs.Seconds.{largest}
 use Rattle.rtp_packet.specs.Datagram.{LARGEST-PAYLOAD}
-use Rattle.model.specs.declared.Bounds.{Bounds}
 use Rattle.model.specs.Lists.{some?, every?}
 use Rattle.model.specs.Records.{Entry, Gap}
 use Rattle.model.specs.Rules.{is}
-use Rattle.model.specs.Valid.{atMost, byClock, notPassed, fieldsSound, entrySound}
+use Rattle.model.specs.Valid.{Bounds, atMost, byClock, notPassed, fieldsSound, entrySound}
 use Rattle.packet_gaps.proofs.Turns.{every-weaker}
 use Rattle.entries.specs.Entries.{fits}
 

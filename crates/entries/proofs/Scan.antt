@@ -15,11 +15,10 @@ use Rattle.words.proofs.Moves.{length-padded, written-next}
 use Rattle.words.proofs.Lists.{map-append}
 use Rattle.words.proofs.Records.{length-words}
 use Rattle.words.proofs.Blocked.{first-at, flat-append, flat-blocks}
-use Rattle.model.specs.declared.Bounds.{Bounds}
 use Rattle.model.specs.Lists.{some?, every?}
 use Rattle.model.specs.Records.{Entry, Gap, entryNumbers}
 use Rattle.model.specs.Rules.{is}
-use Rattle.model.specs.Valid.{fieldsSound, entrySound}
+use Rattle.model.specs.Valid.{Bounds, fieldsSound, entrySound}
 use Rattle.model.specs.Storage.{ENTRY-WORDS, PAYLOAD-BYTES, arrivalWord, arrivalOf, bit, entryWords, payloadBytes, entryOf, entriesOf}
 use Rattle.model.proofs.Lists.{Each, none, more}
 use Rattle.model.proofs.Laid.{Fits, even-payloads, length-entriesOf}

@@ -6,24 +6,27 @@ ghost use Prim.Native.Nat.{ℕ, _*_, _≤_};
 ghost use lib.ListN.{length};
 ghost use Rattle.words.specs.Blocks.{laid};
 ghost use Rattle.words.specs.Order.{ascends};
+ghost use Rattle.rtp.specs.Opt.{numberOf};
 ghost use Rattle.model.specs.Lists.{every?};
 ghost use Rattle.model.specs.Records.{gapNumbers};
 ghost use Rattle.model.specs.Valid.{atMost, byClock, fieldsSound, entriesSound};
 ghost use Rattle.model.specs.Storage.{ENTRY-WORDS, PAYLOAD-BYTES, GAP-WORDS, entryWords, payloadBytes, entriesOf, gapsOf};
+ghost use Rattle.packet_gaps.specs.Gaps.{bounds};
 ghost use Rattle.entries.specs.Entries.{fits};
 use super::ENTRY_WORDS;
 use super::Entry;
 use super::PAYLOAD_BYTES;
-use model::Bounds;
+use packet_gaps::check::Bounds;
 use rtp::ExtendedSequenceNumber;
 use rtp::opt::Opt;
+use rtp::opt::OptNumber;
 
-fn at_most(highest: Opt, x: ExtendedSequenceNumber) -> bool
-    ensures { λ r. ⌜ r ≡ atMost highest (x .0) ⌝ }
+fn at_most(highest: OptNumber, x: ExtendedSequenceNumber) -> bool
+    ensures { λ r. ⌜ r ≡ atMost (numberOf highest) (x .0) ⌝ }
 {
     match highest {
-        Opt::None => false,
-        Opt::Some(h) => x.0 <= h,
+        OptNumber::None => false,
+        OptNumber::Some(h) => x.0 <= h.0,
     }
 }
 
@@ -38,7 +41,7 @@ fn by_clock(clock: u64, instant: Opt) -> bool
 
 // `missing`: the entry's number is that of a gap too.
 fn entry_sound(b: Bounds, missing: bool, e: Entry) -> bool
-    ensures { λ r. ⌜ r ≡ fieldsSound b missing (e .number .0) (e .timestamp .0) (e .arrival) (e .size) ⌝ }
+    ensures { λ r. ⌜ r ≡ fieldsSound (bounds b) missing (e .number .0) (e .timestamp .0) (e .arrival) (e .size) ⌝ }
 {
     let highest = b.highest;
     let passed = b.passed;
@@ -57,7 +60,7 @@ fn entry_sound(b: Bounds, missing: bool, e: Entry) -> bool
 pub fn are_sound(words: &[u64], n: usize, b: Bounds, gaps: &[u64], m: usize) -> bool
     requires { ⌜ (ENTRY-WORDS * n ≤ length (now words)) × (GAP-WORDS * m ≤ length (now gaps)) ⌝ }
     requires { ⌜ ascends (gapNumbers (gapsOf (now gaps) m)) ≡ true ⌝ }
-    ensures { λ r. ⌜ ((bytes : List ℕ) → r ≡ entriesSound b (gapsOf (now (gaps .entry)) m) (entriesOf (now (words .entry)) bytes n)) ⌝ }
+    ensures { λ r. ⌜ ((bytes : List ℕ) → r ≡ entriesSound (bounds b) (gapsOf (now (gaps .entry)) m) (entriesOf (now (words .entry)) bytes n)) ⌝ }
 {
     let mut i = 0;
     while i < n {

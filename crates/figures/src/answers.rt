@@ -14,6 +14,7 @@ use jitter::Jitter;
 use packet_loss::PacketLoss;
 use rtp::ExtendedRtpTimestamp;
 use rtp::opt::Opt;
+use rtp::opt::OptTimestamp;
 use rtx_state::OptRtt;
 use rtx_state::RtxRtt;
 use rtx_state::RtxState;
@@ -22,6 +23,13 @@ fn put_opt(o: Opt) {
     match o {
         Opt::None => line::put_none(),
         Opt::Some(n) => line::put(n),
+    }
+}
+
+fn put_timestamp(o: OptTimestamp) {
+    match o {
+        OptTimestamp::None => line::put_none(),
+        OptTimestamp::Some(t) => line::put(t.0),
     }
 }
 
@@ -171,7 +179,7 @@ fn held(instant: u64, timestamp: u64, rate: u64, delay: u64, now: u64) -> bool
 pub(crate) fn limit(last: u64, timestamp: u64, rate: u64, delay: u64, now: u64) {
     if held(last, timestamp, rate, delay, now) {
         let t = ExtendedRtpTimestamp(timestamp);
-        put_opt(handout::max_timestamp(last, t, rate as u32, delay, now));
+        put_timestamp(handout::max_timestamp(last, t, rate as u32, delay, now));
     } else {
         line::put_none();
     }

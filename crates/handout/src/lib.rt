@@ -3,13 +3,14 @@ ghost use mathlib.Core.Path.{_≡_};
 ghost use Prim.Native.Nat.{_≤_, _<_, _^_};
 ghost use lib.IntN.{pos, _+ℤ_};
 ghost use lib.Signed.{mag};
+ghost use Rattle.rtp.specs.Opt.{timestampOf};
 ghost use Rattle.durations.specs.Seconds.{largest, fromSecsF64};
 ghost use Rattle.config.specs.Valid.{longest};
 ghost use Rattle.handout.specs.Limit.{deltaInRtpTimesteps, asTimestamp, mapInstantToRtpTimestamp, maxTimestamp};
 ghost use Rattle.handout.specs.Timeout.{behind, remainingOf, timeoutReceive};
 use durations::FromSecs;
 use rtp::ExtendedRtpTimestamp;
-use rtp::opt::Opt;
+use rtp::opt::OptTimestamp;
 
 // Nanoseconds, 2^53: a front packet that was sent longer than this before the last one is due (01, "Hand-out").
 const LONGEST_DELTA: u64 = 9007199254740992;
@@ -21,9 +22,9 @@ pub fn max_timestamp(
     clock_rate: u32,
     delay: u64,
     now: u64,
-) -> Opt
+) -> OptTimestamp
     requires { ⌜ («last_instant» ≤ largest) × («last_timestamp» .0 ≤ largest) × («clock_rate» ≤ 1000000) × (delay ≤ longest) × (now ≤ largest) ⌝ }
-    ensures { λ r. ⌜ r ≡ maxTimestamp «last_instant» («last_timestamp» .0) «clock_rate» delay now ⌝ }
+    ensures { λ r. ⌜ timestampOf r ≡ maxTimestamp «last_instant» («last_timestamp» .0) «clock_rate» delay now ⌝ }
 {
     let pop_earliest = (now as i64) - (delay as i64);
     map_instant_to_rtp_timestamp(last_instant, last_timestamp, clock_rate, pop_earliest)
@@ -35,13 +36,13 @@ fn map_instant_to_rtp_timestamp(
     reference_timestamp: ExtendedRtpTimestamp,
     clock_rate: u32,
     instant: i64,
-) -> Opt
+) -> OptTimestamp
     requires { ⌜ («reference_instant» ≤ largest) × («reference_timestamp» .0 ≤ largest) × («clock_rate» ≤ 1000000) × (mag instant < 2 ^ 53) ⌝ }
-    ensures { λ r. ⌜ r ≡ mapInstantToRtpTimestamp «reference_instant» («reference_timestamp» .0) «clock_rate» instant ⌝ }
+    ensures { λ r. ⌜ timestampOf r ≡ mapInstantToRtpTimestamp «reference_instant» («reference_timestamp» .0) «clock_rate» instant ⌝ }
 {
     let delta = instant - (reference_instant as i64);
     add_timesteps(
-        reference_timestamp.0,
+        reference_timestamp,
         delta_in_rtp_timesteps(delta, clock_rate),
     )
 }
@@ -54,15 +55,16 @@ fn delta_in_rtp_timesteps(delta: i64, clock_rate: u32) -> i64
     std::num::truncating_f64_to_i64(durations::signed_seconds(delta) * (clock_rate as f64))
 }
 
-fn add_timesteps(timestamp: u64, steps: i64) -> Opt
-    requires { ⌜ (timestamp ≤ largest) × (mag steps < 2 ^ 62) ⌝ }
-    ensures { λ r. ⌜ r ≡ asTimestamp (pos timestamp +ℤ steps) ⌝ }
+fn add_timesteps(timestamp: ExtendedRtpTimestamp, steps: i64) -> OptTimestamp
+    requires { ⌜ (timestamp .0 ≤ largest) × (mag steps < 2 ^ 62) ⌝ }
+    ensures { λ r. ⌜ timestampOf r ≡ asTimestamp (pos (timestamp .0) +ℤ steps) ⌝ }
 {
-    let sum = (timestamp as i64) + steps;
+    let sum = (timestamp.0 as i64) + steps;
     if sum < 0 {
-        Opt::None
+        OptTimestamp::None
     } else {
-        Opt::Some(sum as u64)
+        let limit = sum as u64;
+        OptTimestamp::Some(ExtendedRtpTimestamp(limit))
     }
 }
 
@@ -78,18 +80,22 @@ pub fn timeout_receive(
     requires { ⌜ («last_instant» ≤ largest) × («last_timestamp» .0 ≤ largest) × («earliest_timestamp» .0 ≤ largest) × (1 ≤ «clock_rate») × (delay ≤ longest) × (now ≤ largest) ⌝ }
     ensures { λ r. ⌜ r ≡ timeoutReceive «last_instant» («last_timestamp» .0) («earliest_timestamp» .0) «clock_rate» delay now ⌝ }
 {
-    match delta(last_timestamp.0, earliest_timestamp.0, clock_rate) {
+    match delta(last_timestamp, earliest_timestamp, clock_rate) {
         FromSecs::Nanos(ns) => remaining(last_instant, ns, delay, now),
         FromSecs::Refused => 0,
     }
 }
 
 // How long before the last packet the front one was sent.
-fn delta(last_timestamp: u64, earliest_timestamp: u64, clock_rate: u32) -> FromSecs
-    requires { ⌜ («last_timestamp» ≤ largest) × («earliest_timestamp» ≤ largest) ⌝ }
-    ensures { λ r. ⌜ r ≡ fromSecsF64 (behind «last_timestamp» «earliest_timestamp» «clock_rate») ⌝ }
+fn delta(
+    last_timestamp: ExtendedRtpTimestamp,
+    earliest_timestamp: ExtendedRtpTimestamp,
+    clock_rate: u32,
+) -> FromSecs
+    requires { ⌜ («last_timestamp» .0 ≤ largest) × («earliest_timestamp» .0 ≤ largest) ⌝ }
+    ensures { λ r. ⌜ r ≡ fromSecsF64 (behind («last_timestamp» .0) («earliest_timestamp» .0) «clock_rate») ⌝ }
 {
-    let delta = (last_timestamp as f64) - (earliest_timestamp as f64);
+    let delta = (last_timestamp.0 as f64) - (earliest_timestamp.0 as f64);
     let max = if delta > 0.0 { delta } else { 0.0 };
     durations::from_secs_f64(max / (clock_rate as f64))
 }

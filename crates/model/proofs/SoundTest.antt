@@ -19,11 +19,10 @@ use Rattle.config.specs.Valid.{within, longest, settingsValid, sendersValid}
 use Rattle.model.specs.declared.Config.{Config}
 use Rattle.model.specs.declared.Counters.{Counters}
 use Rattle.model.specs.declared.Queue.{Queue}
-use Rattle.model.specs.declared.Bounds.{Bounds}
 use Rattle.model.specs.Lists.{some?, every?}
 use Rattle.model.specs.Records.{Entry, Gap, Remembered, State, entryNumbers, gapNumbers, highestOf, returnedOf}
 use Rattle.model.specs.Rules.{is, MAX-LOST-NACKED}
-use Rattle.model.specs.Valid.{boundsOf, atMost, under, notPassed, byClock, gapSound, gapsSound, fieldsSound, entrySound, entriesSound, rememberedSound, listsSound, lastSound, returnedSound, countersSound, queueSound, countsFit, sound}
+use Rattle.model.specs.Valid.{Bounds, boundsOf, atMost, under, notPassed, byClock, gapSound, gapsSound, fieldsSound, entrySound, entriesSound, rememberedSound, listsSound, lastSound, returnedSound, countersSound, queueSound, countsFit, sound}
 use Rattle.model.specs.Push.{passed}
 use Rattle.model.specs.Storage.{entryPlaces}
 use Rattle.model.specs.Table.{configValid}

@@ -17,12 +17,19 @@ use Rattle.model.specs.declared.LastReceived.{LastReceived}
 use Rattle.model.specs.declared.LastReceived.the-variants as LastReceived
 use Rattle.model.specs.declared.Counters.{Counters}
 use Rattle.model.specs.declared.Queue.{Queue}
-use Rattle.model.specs.declared.Bounds.{Bounds}
 use Rattle.model.specs.Lists.{some?, every?}
 use Rattle.model.specs.Records.{Entry, Gap, Remembered, State, entryNumbers, gapNumbers, highestOf, returnedOf}
 use Rattle.model.specs.Rules.{is, MAX-LOST-NACKED}
 use Rattle.model.specs.Push.{atOrBelow, passedOf}
 use Rattle.model.specs.Storage.{entryPlaces}
+
+-- what the numbers and instants of the lists are held against
+pub record Bounds : Type 0 where
+  -- in sorted mode the last returned: entries and gaps are above it
+  pub passed : Opt
+  -- the highest number so far
+  pub highest : Opt
+  pub clock : ℕ
 
 unfoldable pub boundsOf : Queue → Bounds
 unfolding passedOf

@@ -8,7 +8,6 @@ use jitter::Jitter;
 use packet_loss::PacketLoss;
 use rtp::ExtendedRtpTimestamp;
 use rtp::ExtendedSequenceNumber;
-use rtp::opt::Opt;
 use rtx_state::RtxState;
 
 // What the opening fixes.
@@ -61,15 +60,6 @@ pub struct Session {
     pub entries: usize,
     pub gaps: usize,
     pub remembered: usize,
-}
-
-// What check 16 holds the numbers and instants of the lists against.
-pub struct Bounds {
-    // In sorted mode the last returned: entries and gaps are above it.
-    pub passed: Opt,
-    // The highest number so far.
-    pub highest: Opt,
-    pub clock: u64,
 }
 
 // What the opening or an accepted call leaves is never refused under 16 at the next call.

@@ -24,11 +24,10 @@ use Rattle.model.specs.Lists.{leading, trailing, every?}
 use Rattle.model.specs.Records.{Gap, gapNumbers}
 use Rattle.model.specs.Rules.{gapsBelow, gapsFrom}
 use Rattle.model.specs.Push.{passed}
-use Rattle.model.specs.Valid.{under, notPassed, gapSound}
+use Rattle.model.specs.Valid.{Bounds, under, notPassed, gapSound}
 use Rattle.model.specs.Storage.{GAP-WORDS, gapWords, gapOfWords, gapsOf}
 use Rattle.model.proofs.Laid.{gaps-held, gap-coded}
 use Rattle.packet_gaps.specs.Gaps.{GapsIn, Small, instantsFit}
-use Rattle.model.specs.declared.Bounds.{Bounds}
 use Rattle.packet_gaps.proofs.Laws.{below-front}
 use Rattle.packet_gaps.proofs.Turns.{every-weaker}
 

@@ -10,12 +10,11 @@ use Rattle.rtp.specs.Opt.{optMin}
 use Rattle.rtp.specs.declared.opt.Opt.{Opt}
 use Rattle.rtp.specs.declared.opt.Opt.the-variants.{None, Some}
 use Rattle.config.specs.declared.NackTimings.{NackTimings}
-use Rattle.model.specs.declared.Bounds.{Bounds}
 use Rattle.model.specs.Lists.{keep, leading, some?}
 use Rattle.model.specs.Records.{Gap, gapNumbers}
 use Rattle.model.specs.Rules.{dueAt, due, full, tried}
 use Rattle.model.specs.Poll.{nackTimeout}
-use Rattle.model.specs.Valid.{gapSound}
+use Rattle.model.specs.Valid.{Bounds, gapSound}
 use Rattle.model.specs.Storage.{GAP-WORDS, gapOfWords, gapsOf}
 use Rattle.model.proofs.Laid.{length-gapsOf}
 use Rattle.packet_gaps.proofs.Laws.{noGap, gap-numbers, number-at, read-is}

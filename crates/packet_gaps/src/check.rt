@@ -3,44 +3,56 @@ ghost use mathlib.Core.Path.{_≡_};
 ghost use Prim.Native.Nat.{_*_, _≤_};
 ghost use lib.ListN.{length};
 ghost use Rattle.words.specs.Blocks.{laid};
+ghost use Rattle.rtp.specs.Opt.{numberOf};
 ghost use Rattle.model.specs.Records.{highestOf, returnedOf};
 ghost use Rattle.model.specs.Push.{passedOf};
 ghost use Rattle.model.specs.Valid.{boundsOf, under, notPassed, gapSound, gapsSound};
 ghost use Rattle.model.specs.Storage.{GAP-WORDS, gapWords, gapsOf};
-ghost use Rattle.packet_gaps.specs.Gaps.{gap};
+ghost use Rattle.packet_gaps.specs.Gaps.{gap, bounds};
 use super::GAP_WORDS;
 use super::Gap;
 use config::RtpInboundQueueMode;
-use model::Bounds;
 use model::LastReceived;
 use model::LastReturned;
 use model::Queue;
 use rtp::ExtendedSequenceNumber;
-use rtp::opt::Opt;
+use rtp::opt::OptNumber;
 
-fn highest_of(last: LastReceived) -> Opt
-    ensures { λ r. ⌜ r ≡ highestOf last ⌝ }
+// What check 16 holds the numbers and instants of the lists against.
+pub struct Bounds {
+    // In sorted mode the last returned: entries and gaps are above it.
+    pub passed: OptNumber,
+    // The highest number so far.
+    pub highest: OptNumber,
+    pub clock: u64,
+}
+
+fn highest_of(last: LastReceived) -> OptNumber
+    ensures { λ r. ⌜ numberOf r ≡ highestOf last ⌝ }
 {
     match last {
-        LastReceived::None => Opt::None,
-        LastReceived::Some(r) => Opt::Some(r.number.0),
+        LastReceived::None => OptNumber::None,
+        LastReceived::Some(r) => {
+            let number = r.number;
+            OptNumber::Some(number)
+        }
     }
 }
 
-fn passed_of(mode: RtpInboundQueueMode, returned: LastReturned) -> Opt
-    ensures { λ r. ⌜ r ≡ passedOf mode (returnedOf returned) ⌝ }
+fn passed_of(mode: RtpInboundQueueMode, returned: LastReturned) -> OptNumber
+    ensures { λ r. ⌜ numberOf r ≡ passedOf mode (returnedOf returned) ⌝ }
 {
     match mode {
-        RtpInboundQueueMode::Passthrough => Opt::None,
+        RtpInboundQueueMode::Passthrough => OptNumber::None,
         RtpInboundQueueMode::SortedQueue => match returned {
-            LastReturned::None => Opt::None,
-            LastReturned::Some(n) => Opt::Some(n.0),
+            LastReturned::None => OptNumber::None,
+            LastReturned::Some(n) => OptNumber::Some(n),
         },
     }
 }
 
 pub fn bounds_of(q: Queue) -> Bounds
-    ensures { λ r. ⌜ r ≡ boundsOf q ⌝ }
+    ensures { λ r. ⌜ bounds r ≡ boundsOf q ⌝ }
 {
     let config = q.config;
     let settings = config.settings;
@@ -57,26 +69,26 @@ pub fn bounds_of(q: Queue) -> Bounds
 }
 
 // Whether x is above `low`, where there is one.
-pub fn above(low: Opt, x: ExtendedSequenceNumber) -> bool
-    ensures { λ r. ⌜ r ≡ notPassed low (x .0) ⌝ }
+pub fn above(low: OptNumber, x: ExtendedSequenceNumber) -> bool
+    ensures { λ r. ⌜ r ≡ notPassed (numberOf low) (x .0) ⌝ }
 {
     match low {
-        Opt::None => true,
-        Opt::Some(m) => m < x.0,
+        OptNumber::None => true,
+        OptNumber::Some(m) => m.0 < x.0,
     }
 }
 
-fn below_highest(highest: Opt, x: ExtendedSequenceNumber) -> bool
-    ensures { λ r. ⌜ r ≡ under highest (x .0) ⌝ }
+fn below_highest(highest: OptNumber, x: ExtendedSequenceNumber) -> bool
+    ensures { λ r. ⌜ r ≡ under (numberOf highest) (x .0) ⌝ }
 {
     match highest {
-        Opt::None => false,
-        Opt::Some(h) => x.0 < h,
+        OptNumber::None => false,
+        OptNumber::Some(h) => x.0 < h.0,
     }
 }
 
 fn gap_sound(b: Bounds, g: Gap) -> bool
-    ensures { λ r. ⌜ r ≡ gapSound b (gap g) ⌝ }
+    ensures { λ r. ⌜ r ≡ gapSound (bounds b) (gap g) ⌝ }
 {
     let highest = b.highest;
     let passed = b.passed;
@@ -87,7 +99,7 @@ fn gap_sound(b: Bounds, g: Gap) -> bool
 // Whether the numbers of the n gaps ascend, and each gap keeps to the bounds.
 pub fn are_sound(s: &[u64], n: usize, b: Bounds) -> bool
     requires { ⌜ GAP-WORDS * n ≤ length (now s) ⌝ }
-    ensures { λ r. ⌜ r ≡ gapsSound b (gapsOf (now (s .entry)) n) ⌝ }
+    ensures { λ r. ⌜ r ≡ gapsSound (bounds b) (gapsOf (now (s .entry)) n) ⌝ }
 {
     let mut i = 0;
     while i < n {

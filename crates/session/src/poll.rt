@@ -3,6 +3,7 @@ ghost use mathlib.Core.Path.{_≡_};
 ghost use mathlib.Core.List.{[], _∷_};
 ghost use Prim.Native.Nat.{_+_, _≤_, _<_, _^_};
 ghost use lib.Dec.{T};
+ghost use Rattle.rtp.specs.Opt.{timestampOf};
 ghost use Rattle.durations.specs.Seconds.{largest};
 ghost use Rattle.config.specs.Valid.{settingsValid};
 ghost use Rattle.config.specs.declared.RtpInboundQueueMode.the-variants.{SortedQueue};
@@ -16,7 +17,7 @@ use model::LastReceived;
 use model::Queue;
 use rtp::ExtendedRtpTimestamp;
 use rtp::ExtendedSequenceNumber;
-use rtp::opt::Opt;
+use rtp::opt::OptTimestamp;
 
 // 14, for the numbers lost.
 pub fn lost_refusal(q: Queue, lost: u64) -> u64
@@ -48,12 +49,12 @@ pub fn handed_out(q: Queue, lost: u64, number: ExtendedSequenceNumber) -> Queue
     super::with_returned(super::lose(q, lost), number)
 }
 
-fn reaches(timestamp: ExtendedRtpTimestamp, limit: Opt) -> bool
-    ensures { λ r. ⌜ r ≡ Poll.reaches (timestamp .0) limit ⌝ }
+fn reaches(timestamp: ExtendedRtpTimestamp, limit: OptTimestamp) -> bool
+    ensures { λ r. ⌜ r ≡ Poll.reaches (timestamp .0) (timestampOf limit) ⌝ }
 {
     match limit {
-        Opt::None => false,
-        Opt::Some(max) => timestamp.0 <= max,
+        OptTimestamp::None => false,
+        OptTimestamp::Some(max) => timestamp.0 <= max.0,
     }
 }
 

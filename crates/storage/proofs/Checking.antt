@@ -13,13 +13,12 @@ use Rattle.words.proofs.Ordered.{and-left, and-right}
 use Rattle.config.specs.declared.Settings.{Settings}
 use Rattle.config.specs.Valid.{settingsValid, sendersValid}
 use Rattle.config.proofs.Facts.{Usable, usable}
-use Rattle.model.specs.declared.Bounds.{Bounds}
 use Rattle.model.specs.declared.Config.{Config}
 use Rattle.model.specs.declared.Session.{Session}
 use Rattle.model.specs.Lists.{every?}
 use Rattle.model.specs.Records.{State, entryNumbers, gapNumbers}
 use Rattle.model.specs.Rules.{MAX-LOST-NACKED}
-use Rattle.model.specs.Valid.{boundsOf, gapSound, gapsSound, entrySound, entriesSound, rememberedSound, listsSound, countsFit, queueSound, sound}
+use Rattle.model.specs.Valid.{Bounds, boundsOf, gapSound, gapsSound, entrySound, entriesSound, rememberedSound, listsSound, countsFit, queueSound, sound}
 use Rattle.model.specs.Storage.{Storage, Stored, ENTRY-WORDS, PAYLOAD-BYTES, GAP-WORDS, REMEMBERED-WORDS, entryPlaces, lengthsFit, entriesOf, gapsOf, rememberedOf, parse}
 use Rattle.model.specs.Table.{configValid, sessionSound}
 use Rattle.model.proofs.Laid.{length-entriesOf, length-gapsOf, length-rememberedOf}

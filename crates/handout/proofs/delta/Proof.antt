@@ -13,10 +13,10 @@ use Rattle.handout.proofs.delta.Statement.{statement}
 use Rattle.handout.proofs.delta.Tie as tie
 
 int-to-float-delta : tie.Need-int-to-float-delta
-int-to-float-delta c = counted binary64 (c .before .args .last-timestamp) (omega arith)
+int-to-float-delta c = counted binary64 (c .before .args .last-timestamp .0) (omega arith)
 
 int-to-float-delta-2 : tie.Need-int-to-float-delta-2
-int-to-float-delta-2 c = counted binary64 (c .before .before .args .earliest-timestamp) (omega arith)
+int-to-float-delta-2 c = counted binary64 (c .before .before .args .earliest-timestamp .0) (omega arith)
 
 int-to-float-from-secs-f64 : tie.Need-int-to-float-from-secs-f64
 int-to-float-from-secs-f64 c = search needs
@@ -25,7 +25,7 @@ from-secs-f64-requires : tie.Need-from-secs-f64-requires
 from-secs-f64-requires c κs = search needs
 
 abbrev difference : tie.Start → Float
-difference c = sub binary64 (ofInt binary64 (pos (c .args .last-timestamp))) (ofInt binary64 (pos (c .args .earliest-timestamp)))
+difference c = sub binary64 (ofInt binary64 (pos (c .args .last-timestamp .0))) (ofInt binary64 (pos (c .args .earliest-timestamp .0)))
 
 max-is : (c : tie.Joined1) → c .if1 .max ≡ cond (lt zero64 (difference (c .before .before .before))) (difference (c .before .before .before)) zero64
 max-is c = ⊎-elim (λ w. simp (w .0 .taken) (w .1)) (λ w. simp (w .0 .left) (w .1)) (c .if1 .came)

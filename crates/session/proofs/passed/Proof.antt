@@ -1,8 +1,8 @@
 -- `passed` meets its contract: not above what the bounds say is passed.
-use mathlib.Core.Path.{_≡_, refl}
+use mathlib.Core.Path.{_≡_, refl, ap}
 use mathlib.Core.Bool.{Bool, true, false, not}
 use Rattle.model.specs.Push.{passed}
-use Rattle.model.specs.Valid.{boundsOf, notPassed}
+use Rattle.model.specs.Valid.{Bounds, boundsOf, notPassed}
 use borrow.Author.Needs.{needs}
 use Rattle.session.proofs.passed.Statement.{statement}
 use Rattle.session.proofs.passed.Tie as tie
@@ -19,7 +19,7 @@ above-requires c κs = search needs
 
 returns : tie.Need-returns
 unfolding passed boundsOf notPassed
-returns c = rw (c .above .ensures, c .before .bounds-of .ensures) (not-not _)
+returns c = rw (c .above .ensures, ap (λ (b : Bounds). b .passed) (c .before .bounds-of .ensures)) (not-not _)
 
 pub passed-spec : {M : Type 1} → statement M
 passed-spec = tie.close (tie.spec bounds-of-requires above-requires returns)

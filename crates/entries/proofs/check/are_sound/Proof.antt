@@ -4,6 +4,7 @@ use mathlib.Core.List.{List}
 use Prim.Native.Nat.{ℕ, _-_, _≤_}
 use borrow.Author.Tests.{not-true, not-false}
 use Rattle.model.specs.Storage.{gapsOf}
+use Rattle.packet_gaps.specs.Gaps.{bounds}
 use Rattle.packet_gaps.proofs.Turns.{left, left-bad, left-last, left-unordered, left-more}
 use Rattle.entries.proofs.Scan.{entriesLeft, scanned, number-word, scan-end}
 use borrow.Author.Needs.{needs}
@@ -11,7 +12,7 @@ use Rattle.entries.proofs.check.are_sound.Statement.{statement}
 use Rattle.entries.proofs.check.are_sound.Tie as tie
 
 abbrev Inv-loop : tie.InvT-loop
-Inv-loop words n b gaps m i₀ i = ((bytes : List ℕ) → entriesLeft b (gapsOf gaps m) words bytes n 0 ≡ entriesLeft b (gapsOf gaps m) words bytes n i) × (i ≤ n)
+Inv-loop words n b gaps m i₀ i = ((bytes : List ℕ) → entriesLeft (bounds b) (gapsOf gaps m) words bytes n 0 ≡ entriesLeft (bounds b) (gapsOf gaps m) words bytes n i) × (i ≤ n)
 
 abbrev μ-loop : tie.MeasureT-loop
 μ-loop words n b gaps m i₀ i = n - i
@@ -35,7 +36,7 @@ returns c = λ bytes.
     let l = c .before .before .before .before .before .loop in
     let r = c .before .before .before .read in
     let m = c .before .before .contains in
-    sym (l .inv .0 bytes ∙ left-bad (scanned (s .args .words .now) bytes (s .args .n) (l .i) (c .before .before .before .before .loop-test .taken) (r .result) (r .ensures) (s .args .b) (gapsOf (s .args .gaps .now) (s .args .m)) (m .result) (m .ensures) _ (c .before .entry-sound .ensures)) (not-true _ (c .if1 .taken)))
+    sym (l .inv .0 bytes ∙ left-bad (scanned (s .args .words .now) bytes (s .args .n) (l .i) (c .before .before .before .before .loop-test .taken) (r .result) (r .ensures) (bounds (s .args .b)) (gapsOf (s .args .gaps .now) (s .args .m)) (m .result) (m .ensures) _ (c .before .entry-sound .ensures)) (not-true _ (c .if1 .taken)))
 
 add-next : tie.Need-add-next Inv-loop μ-loop
 add-next c = search needs
@@ -56,7 +57,7 @@ returns-2 c = λ bytes.
     let l = c .before .before .before .before .before .before .before .before .before .loop in
     let r = c .before .before .before .before .before .before .before .read in
     let m = c .before .before .before .before .before .before .contains in
-    sym (l .inv .0 bytes ∙ left-unordered (scanned (s .args .words .now) bytes (s .args .n) (l .i) (c .before .before .before .before .before .before .before .before .loop-test .taken) (r .result) (r .ensures) (s .args .b) (gapsOf (s .args .gaps .now) (s .args .m)) (m .result) (m .ensures) _ (c .before .before .before .before .before .entry-sound .ensures)) (c .before .before .before .if2 .taken) (number-word (s .args .words .now) bytes (s .args .n) _ (c .before .before .before .if2 .taken)) (c .if3 .taken))
+    sym (l .inv .0 bytes ∙ left-unordered (scanned (s .args .words .now) bytes (s .args .n) (l .i) (c .before .before .before .before .before .before .before .before .loop-test .taken) (r .result) (r .ensures) (bounds (s .args .b)) (gapsOf (s .args .gaps .now) (s .args .m)) (m .result) (m .ensures) _ (c .before .before .before .before .before .entry-sound .ensures)) (c .before .before .before .if2 .taken) (number-word (s .args .words .now) bytes (s .args .n) _ (c .before .before .before .if2 .taken)) (c .if3 .taken))
 
 loop-less : tie.Need-loop-less Inv-loop μ-loop
 loop-less c = search needs
@@ -66,7 +67,7 @@ loop-again c = let s = c .before .before .before .before .before .before .before
     let l = c .before .before .before .before .before .before .before .before .before .loop in
     let r = c .before .before .before .before .before .before .before .read in
     let m = c .before .before .before .before .before .before .contains in
-    (λ bytes. l .inv .0 bytes ∙ left-more (scanned (s .args .words .now) bytes (s .args .n) (l .i) (c .before .before .before .before .before .before .before .before .loop-test .taken) (r .result) (r .ensures) (s .args .b) (gapsOf (s .args .gaps .now) (s .args .m)) (m .result) (m .ensures) _ (c .before .before .before .before .before .entry-sound .ensures)) (c .before .before .before .if2 .taken) (number-word (s .args .words .now) bytes (s .args .n) _ (c .before .before .before .if2 .taken)) (not-false _ (c .before .before .before .before .if1 .left)) (c .if3 .left), search needs)
+    (λ bytes. l .inv .0 bytes ∙ left-more (scanned (s .args .words .now) bytes (s .args .n) (l .i) (c .before .before .before .before .before .before .before .before .loop-test .taken) (r .result) (r .ensures) (bounds (s .args .b)) (gapsOf (s .args .gaps .now) (s .args .m)) (m .result) (m .ensures) _ (c .before .before .before .before .before .entry-sound .ensures)) (c .before .before .before .if2 .taken) (number-word (s .args .words .now) bytes (s .args .n) _ (c .before .before .before .if2 .taken)) (not-false _ (c .before .before .before .before .if1 .left)) (c .if3 .left), search needs)
 
 loop-less-2 : tie.Need-loop-less-2 Inv-loop μ-loop
 loop-less-2 c = search needs
@@ -76,14 +77,14 @@ loop-again-2 c = let s = c .before .before .before .before .before .before .befo
     let l = c .before .before .before .before .before .before .loop in
     let r = c .before .before .before .before .read in
     let m = c .before .before .before .contains in
-    (λ bytes. l .inv .0 bytes ∙ left-last (scanned (s .args .words .now) bytes (s .args .n) (l .i) (c .before .before .before .before .before .loop-test .taken) (r .result) (r .ensures) (s .args .b) (gapsOf (s .args .gaps .now) (s .args .m)) (m .result) (m .ensures) _ (c .before .before .entry-sound .ensures)) (not-false _ (c .before .if1 .left)) (c .if2 .left), search needs)
+    (λ bytes. l .inv .0 bytes ∙ left-last (scanned (s .args .words .now) bytes (s .args .n) (l .i) (c .before .before .before .before .before .loop-test .taken) (r .result) (r .ensures) (bounds (s .args .b)) (gapsOf (s .args .gaps .now) (s .args .m)) (m .result) (m .ensures) _ (c .before .before .entry-sound .ensures)) (not-false _ (c .before .if1 .left)) (c .if2 .left), search needs)
 
 returns-3 : tie.Need-returns-3 Inv-loop μ-loop
 unfolding left
 returns-3 c = λ bytes.
     let s = c .before .before .before .before in
     let l = c .before .loop in
-    sym (l .inv .0 bytes ∙ scan-end (s .args .words .now) bytes (s .args .n) (l .i) (c .loop-test .left) (s .args .b) (gapsOf (s .args .gaps .now) (s .args .m)))
+    sym (l .inv .0 bytes ∙ scan-end (s .args .words .now) bytes (s .args .n) (l .i) (c .loop-test .left) (bounds (s .args .b)) (gapsOf (s .args .gaps .now) (s .args .m)))
 
 pub are-sound-spec : {M : Type 1} → statement M
 are-sound-spec =

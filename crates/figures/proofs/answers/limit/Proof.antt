@@ -13,8 +13,8 @@ cast-max-timestamp c = let h = c .before .held .ensures (c .if1 .taken) in omega
 max-timestamp-requires : tie.Need-max-timestamp-requires
 max-timestamp-requires c κs = let h = c .before .held .ensures (c .if1 .taken) in (h .0, h .1, h .3, h .4, h .5)
 
-put-opt-requires : tie.Need-put-opt-requires
-put-opt-requires c κs = search needs
+put-timestamp-requires : tie.Need-put-timestamp-requires
+put-timestamp-requires c κs = search needs
 
 put-none-requires : tie.Need-put-none-requires
 put-none-requires c κs = search needs
@@ -32,7 +32,7 @@ limit-spec =
     held-requires
     cast-max-timestamp
     max-timestamp-requires
-    put-opt-requires
+    put-timestamp-requires
     put-none-requires
     returns
     returns-2)

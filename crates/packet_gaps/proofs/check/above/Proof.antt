@@ -1,4 +1,5 @@
 -- `above`: each arm is a line of the definition.
+use Rattle.rtp.specs.Opt.{numberOf}
 use Rattle.model.specs.Push.{atOrBelow}
 use Rattle.model.specs.Valid.{notPassed}
 use Rattle.packet_gaps.proofs.Laws.{not-at-or-below}
@@ -13,12 +14,12 @@ enum-known-low : tie.Need-enum-known-low
 enum-known-low c = search needs
 
 returns : tie.Need-returns
-unfolding notPassed atOrBelow
+unfolding numberOf notPassed atOrBelow
 returns c = cc
 
 returns-2 : tie.Need-returns-2
-unfolding notPassed atOrBelow
-returns-2 c = cc (not-at-or-below (c .before .before .low .given .0 .0) (c .before .before .before .before .args .x .0))
+unfolding numberOf notPassed atOrBelow
+returns-2 c = rw (c .before .before .before .low .given .1) (not-at-or-below (c .before .before .before .low .given .0 .0 .0) (c .before .before .before .before .before .args .x .0))
 
 pub above-spec : {M : Type 1} → statement M
 above-spec = tie.close (tie.spec enum-told enum-known-low returns returns-2)

@@ -1,4 +1,5 @@
 -- `highest_of`: each arm is a line of the definition.
+use Rattle.rtp.specs.Opt.{numberOf}
 use Rattle.model.specs.Records.{highestOf}
 use borrow.Author.Needs.{needs}
 use Rattle.packet_gaps.proofs.check.highest_of.Statement.{statement}
@@ -11,11 +12,11 @@ enum-known-last : tie.Need-enum-known-last
 enum-known-last c = search needs
 
 returns : tie.Need-returns
-unfolding highestOf
+unfolding numberOf highestOf
 returns c = cc
 
 returns-2 : tie.Need-returns-2
-unfolding highestOf
+unfolding numberOf highestOf
 returns-2 c = cc
 
 pub highest-of-spec : {M : Type 1} → statement M

@@ -1,4 +1,5 @@
 -- `passed_of`: each arm is a line of the definition.
+use Rattle.rtp.specs.Opt.{numberOf}
 use Rattle.model.specs.Records.{returnedOf}
 use Rattle.model.specs.Push.{passedOf}
 use borrow.Author.Needs.{needs}
@@ -18,15 +19,15 @@ enum-known-returned : tie.Need-enum-known-returned
 enum-known-returned c = search needs
 
 returns : tie.Need-returns
-unfolding passedOf returnedOf
+unfolding numberOf passedOf returnedOf
 returns c = cc
 
 returns-2 : tie.Need-returns-2
-unfolding passedOf returnedOf
+unfolding numberOf passedOf returnedOf
 returns-2 c = cc
 
 returns-3 : tie.Need-returns-3
-unfolding passedOf returnedOf
+unfolding numberOf passedOf returnedOf
 returns-3 c = cc
 
 pub passed-of-spec : {M : Type 1} → statement M

@@ -1,4 +1,5 @@
 -- `reaches` meets its contract, arm by arm.
+use Rattle.rtp.specs.Opt.{timestampOf}
 use Rattle.model.specs.Poll.{reaches}
 use borrow.Author.Needs.{needs}
 use Rattle.session.proofs.poll.reaches.Statement.{statement}
@@ -11,12 +12,12 @@ enum-known-limit : tie.Need-enum-known-limit
 enum-known-limit c = search needs
 
 returns : tie.Need-returns
-unfolding reaches
+unfolding reaches timestampOf
 returns c = cc
 
 returns-2 : tie.Need-returns-2
-unfolding reaches
-returns-2 c = cc
+unfolding reaches timestampOf
+returns-2 c = rw (c .before .before .before .limit .given .1)
 
 pub reaches-spec : {M : Type 1} → statement M
 reaches-spec = tie.close (tie.spec enum-told enum-known-limit returns returns-2)
