@@ -21,7 +21,7 @@ pub enum OptSize {
 }
 
 // The place of the first blank at or after `from`, or the length.
-pub fn end(s: &[u8], from: usize) -> usize
+pub(crate) fn end(s: &[u8], from: usize) -> usize
     requires { ⌜ from ≤ length (now s) ⌝ }
     ensures { λ r. ⌜ (r ≡ from + indexOf 32 (drop from (now (s .entry)))) × (r ≤ length (now (s .entry))) ⌝ }
 {
@@ -72,7 +72,7 @@ fn digits(s: &[u8]) -> Opt
 }
 
 // The number that a field is.
-pub fn number(s: &[u8]) -> Opt
+pub(crate) fn number(s: &[u8]) -> Opt
     ensures { λ r. ⌜ r ≡ numberOf (now (s .entry)) ⌝ }
 {
     if s.len() == 0 {
@@ -86,7 +86,7 @@ pub fn number(s: &[u8]) -> Opt
 
 // Whether the rest of a line, from the blank before its first field, is as many numbers as there are places: they are put there. Where it
 // is not, what the places hold is left open: such a line is unreadable.
-pub fn are_numbers(rest: &[u8], values: &mut [u64]) -> bool
+pub(crate) fn are_numbers(rest: &[u8], values: &mut [u64]) -> bool
     ensures { λ r. ⌜ cond r (some (now (values .exit))) none ≡ numbersOf (length (now (values .entry))) (after (now (rest .entry))) ⌝ }
 {
     let mut from = 0;
@@ -157,7 +157,7 @@ fn decode(s: &[u8], out: &mut [u8])
 }
 
 // The bytes of a HEX field go to the front of `out`; none where it is no such field, or has more bytes than `out`.
-pub fn octets(s: &[u8], out: &mut [u8]) -> OptSize
+pub(crate) fn octets(s: &[u8], out: &mut [u8]) -> OptSize
     ensures { λ r. ⌜ r ≡ sizeOf (hexIn (length (now (out .entry))) (now (s .entry))) ⌝ }
     ensures { λ _. ⌜ now (out .exit) ≡ over (bytesOf (hexIn (length (now (out .entry))) (now (s .entry)))) (now (out .entry)) ⌝ }
 {
