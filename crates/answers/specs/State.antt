@@ -6,6 +6,7 @@ use lib.Dec.{eqb}
 use lib.Ieee.{Float, eq, toBits, binary32, binary64}
 use lib.ListN.{take}
 use Rattle.entries.specs.declared.Entry.{Entry}
+use Rattle.lost_nacked.specs.declared.Remembered.{Remembered}
 use Rattle.model.specs.declared.LastReceived.{LastReceived}
 use Rattle.model.specs.declared.LastReceived.the-variants as LastReceived
 use Rattle.model.specs.declared.LastReturned.{LastReturned}
@@ -86,5 +87,5 @@ gapLine g =
     ascii "gap" ∷ (field (decimal (g .number .0)) ∷ (field (decimal (g .detected)) ∷ (field (optDecimal (nackedOf g)) ∷ (field (decimal (g .nacks)) ∷ (lineFeed ∷ [])))))
 
 -- `remembered EXTENDED NACKED`
-unfoldable pub rememberedLine : ℕ → ℕ → List (List ℕ)
-rememberedLine number nacked = ascii "remembered" ∷ (field (decimal number) ∷ (field (decimal nacked) ∷ (lineFeed ∷ [])))
+unfoldable pub rememberedLine : Remembered → List (List ℕ)
+rememberedLine r = ascii "remembered" ∷ (field (decimal (r .number .0)) ∷ (field (decimal (r .«nacked_at»)) ∷ (lineFeed ∷ [])))

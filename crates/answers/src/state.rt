@@ -5,6 +5,7 @@ ghost use Rattle.answers.specs.Lines.{putAll};
 ghost use Rattle.answers.specs.State.{bits64Text, bits32Text, queueFields, receivedFields, returnedField, rttFields, rtxFields, countFields, stateLine};
 ghost use Rattle.answers.specs.State.{entryLine, nackedOf, gapLine, rememberedLine};
 use entries::Entry;
+use lost_nacked::Remembered;
 use model::LastReceived;
 use model::LastReturned;
 use model::Queue;
@@ -156,11 +157,11 @@ pub fn gap(out: &mut [u8], at: usize, g: Gap) -> usize
     super::end(out, e)
 }
 
-pub fn remembered(out: &mut [u8], at: usize, number: u64, nacked_at: u64) -> usize
-    ensures { λ r. ⌜ output (now (out .exit)) r ≡ putAll (rememberedLine number «nacked_at») (output (now (out .entry)) at) ⌝ }
+pub fn remembered(out: &mut [u8], at: usize, x: Remembered) -> usize
+    ensures { λ r. ⌜ output (now (out .exit)) r ≡ putAll (rememberedLine x) (output (now (out .entry)) at) ⌝ }
 {
     let a = put::text(out, at, b"remembered");
-    let b = put::number(out, a, number);
-    let c = put::number(out, b, nacked_at);
+    let b = put::number(out, a, x.number.0);
+    let c = put::number(out, b, x.nacked_at);
     super::end(out, c)
 }

@@ -1,11 +1,10 @@
 -- Remembered numbers by place: the first of a number stands after all those that are apart from it, and those that are noted are pushed
 -- behind the others, but for the oldest beyond 1,024.
 use mathlib.Core.Path.{_≡_, refl, sym, ap, _∙_}
-use mathlib.Core.Bool.{Bool, true, false, cond, _&&_, not}
+use mathlib.Core.Bool.{Bool, true, false, cond, not}
 use mathlib.Core.List.{List, [], _∷_, _++_}
 use Prim.Native.Nat.{ℕ, suc, _+_, _*_, _-_, _≤_, _<_}
 use native.Mathlib.Omega.{arith}
-use lib.Dec.{eqb, leb}
 use lib.ListN.{length, take, drop, getD, replicate, drop-of-length-le}
 use borrow.Author.Tests.{eq-eqb, ne-eqb, le-leb, lt-leb}
 use Rattle.words.specs.Words.{over, padded, cut}
@@ -30,33 +29,55 @@ use Rattle.lost_nacked.specs.Remembered.{RememberedIn, apart}
 abbrev pub noOne : Remembered
 noOne = rememberedOfWords []
 
-pub remembered-at : (s : List ℕ) (n i : ℕ) → i < n
-    → getD (rememberedOf s n) i noOne ≡ record { number = getD s (REMEMBERED-WORDS * i) 0; nackedAt = getD s (REMEMBERED-WORDS * i + 1) 0 }
-unfolding rememberedOf recordsOf rememberedOfWords
-remembered-at s n i h =
+-- by its two words
+pub remembered-words : (s : List ℕ) (i : ℕ)
+    → record { number = getD s (REMEMBERED-WORDS * i) 0; nackedAt = getD s (REMEMBERED-WORDS * i + 1) 0 } ≡ rememberedOfWords (take REMEMBERED-WORDS (drop (REMEMBERED-WORDS * i) s))
+unfolding rememberedOfWords
+remembered-words s i =
     let z : REMEMBERED-WORDS * i + 0 ≡ REMEMBERED-WORDS * i = omega arith in
     let number : getD (take REMEMBERED-WORDS (drop (REMEMBERED-WORDS * i) s)) 0 0 ≡ getD s (REMEMBERED-WORDS * i) 0 = word-at REMEMBERED-WORDS i 0 s (omega arith) ∙ ap (λ (k : ℕ). getD s k 0) z in
-    record-at REMEMBERED-WORDS rememberedOfWords n s i h ∙ rw (number, word-at REMEMBERED-WORDS i 1 s (omega arith))
+    rw (number, word-at REMEMBERED-WORDS i 1 s (omega arith))
+
+-- what was read at place i is the record there
+module _ (s : List ℕ) (n i : ℕ) (r : Remembered) (e : r ≡ rememberedOfWords (take REMEMBERED-WORDS (drop (REMEMBERED-WORDS * i) s))) (h : i < n) where
+  inside : i < length (rememberedOf s n)
+  inside = rw length-rememberedOf h
+
+  here : getD (rememberedOf s n) i noOne ≡ r
+  unfolding rememberedOf recordsOf
+  here = record-at REMEMBERED-WORDS rememberedOfWords n s i h ∙ sym e
+
+  next : drop i (rememberedOf s n) ≡ r ∷ drop (i + 1) (rememberedOf s n)
+  next = drop-next noOne (rememberedOf s n) i inside ∙ ap (λ (y : Remembered). y ∷ drop (i + 1) (rememberedOf s n)) here
+
+  module _ (x : ℕ) where
+    pub position-found : r .number ≡ x → length (leading (apart x) (drop i (rememberedOf s n))) ≡ 0
+    unfolding isOf
+    position-found f = leading-none noOne (rememberedOf s n) i inside (apart x) (ap (apart x) here ∙ rw (eq-eqb (r .number) x f))
+
+    pub position-more : (r .number ≡ x → ⊥) → length (leading (apart x) (drop i (rememberedOf s n))) ≡ 1 + length (leading (apart x) (drop (i + 1) (rememberedOf s n)))
+    unfolding isOf
+    position-more f = leading-more noOne (rememberedOf s n) i inside (apart x) (ap (apart x) here ∙ rw (ne-eqb (r .number) x f))
+
+  module _ (clock : ℕ) where
+    pub sound-number : largest < r .number → every? (rememberedSound clock) (drop i (rememberedOf s n)) ≡ false
+    unfolding every? rememberedSound
+    sound-number l = rw (next, lt-leb (r .number) largest l)
+
+    module _ (a : r .number ≤ largest) where
+      pub sound-instant : clock < r .nackedAt → every? (rememberedSound clock) (drop i (rememberedOf s n)) ≡ false
+      unfolding every? rememberedSound
+      sound-instant l = rw (next, le-leb (r .number) largest a, lt-leb (r .nackedAt) clock l)
+
+      pub sound-more : r .nackedAt ≤ clock → every? (rememberedSound clock) (drop i (rememberedOf s n)) ≡ every? (rememberedSound clock) (drop (i + 1) (rememberedOf s n))
+      unfolding every? rememberedSound
+      sound-more l = rw (next, le-leb (r .number) largest a, le-leb (r .nackedAt) clock l)
 
 pub tidied : (s : List ℕ) (n : ℕ) → REMEMBERED-WORDS * n ≤ length s → padded (length s) (take (REMEMBERED-WORDS * n) s) ≡ laid rememberedWords (length s) (rememberedOf s n)
 unfolding rememberedOf recordsOf
 tidied s n h = tidied-laid remembered-coded n s h
 
 -- ---- `position` and `forget`
-
-module _ (s : List ℕ) (n i x : ℕ) (h : i < n) where
-  inside : i < length (rememberedOf s n)
-  inside = rw length-rememberedOf h
-
-  apart-is : apart x (getD (rememberedOf s n) i noOne) ≡ not (eqb (getD s (REMEMBERED-WORDS * i) 0) x)
-  unfolding isOf
-  apart-is = ap (apart x) (remembered-at s n i h)
-
-  pub position-found : getD s (REMEMBERED-WORDS * i) 0 ≡ x → length (leading (apart x) (drop i (rememberedOf s n))) ≡ 0
-  position-found e = leading-none noOne (rememberedOf s n) i inside (apart x) (apart-is ∙ rw (eq-eqb (getD s (REMEMBERED-WORDS * i) 0) x e))
-
-  pub position-more : (getD s (REMEMBERED-WORDS * i) 0 ≡ x → ⊥) → length (leading (apart x) (drop i (rememberedOf s n))) ≡ 1 + length (leading (apart x) (drop (i + 1) (rememberedOf s n)))
-  position-more e = leading-more noOne (rememberedOf s n) i inside (apart x) (apart-is ∙ rw (ne-eqb (getD s (REMEMBERED-WORDS * i) 0) x e))
 
 pub position-end : (s : List ℕ) (n i x : ℕ) → n ≤ i → length (leading (apart x) (drop i (rememberedOf s n))) ≡ 0
 position-end s n i x h = leading-end (apart x) (rememberedOf s n) i (omega (arith, length-rememberedOf s n))
@@ -97,8 +118,8 @@ module _ (s : List ℕ) (n x k : ℕ) (m : RememberedIn s n) (e : k ≡ length (
     all-found : (instantOf (keep (isOf x) (rememberedOf s n)) ≡ Some (getD (rememberedOf s n) k noOne .nackedAt)) × (forgetFirst x (rememberedOf s n) ≡ cut k 1 (rememberedOf s n))
     all-found = rw e (first-found x (rememberedOf s n) (omega (arith, length-rememberedOf s n)))
 
-    pub forget-instant : Some (getD s (REMEMBERED-WORDS * k + 1) 0) ≡ instantOf (keep (isOf x) (rememberedOf s n))
-    forget-instant = sym (all-found .0 ∙ ap (λ (r : Remembered). Some (r .nackedAt)) (remembered-at s n k h))
+    pub forget-instant : (r : Remembered) → r ≡ rememberedOfWords (take REMEMBERED-WORDS (drop (REMEMBERED-WORDS * k) s)) → Some (r .nackedAt) ≡ instantOf (keep (isOf x) (rememberedOf s n))
+    forget-instant r i = sym (all-found .0 ∙ ap (λ (y : Remembered). Some (y .nackedAt)) (here s n k r i h))
 
     pub forget-words : over (cut (REMEMBERED-WORDS * k) REMEMBERED-WORDS (take (REMEMBERED-WORDS * n) s) ++ replicate REMEMBERED-WORDS 0) s ≡ laid rememberedWords (length s) (forgetFirst x (rememberedOf s n))
     forget-words =
@@ -116,27 +137,6 @@ module _ (s : List ℕ) (n x k : ℕ) (m : RememberedIn s n) (e : k ≡ length (
     forget-same = m .held ∙ ap (laid rememberedWords (length s)) (sym (none .1))
 
 -- ---- `are_sound`
-
-module _ (s : List ℕ) (n i clock : ℕ) (h : i < n) where
-  by-is : rememberedSound clock (getD (rememberedOf s n) i noOne) ≡ (leb (getD s (REMEMBERED-WORDS * i) 0) largest && leb (getD s (REMEMBERED-WORDS * i + 1) 0) clock)
-  unfolding rememberedSound
-  by-is = ap (rememberedSound clock) (remembered-at s n i h)
-
-  next : drop i (rememberedOf s n) ≡ getD (rememberedOf s n) i noOne ∷ drop (i + 1) (rememberedOf s n)
-  next = drop-next noOne (rememberedOf s n) i (rw length-rememberedOf h)
-
-  pub sound-number : largest < getD s (REMEMBERED-WORDS * i) 0 → every? (rememberedSound clock) (drop i (rememberedOf s n)) ≡ false
-  unfolding every?
-  sound-number l = rw (next, by-is, lt-leb (getD s (REMEMBERED-WORDS * i) 0) largest l)
-
-  module _ (a : getD s (REMEMBERED-WORDS * i) 0 ≤ largest) where
-    pub sound-instant : clock < getD s (REMEMBERED-WORDS * i + 1) 0 → every? (rememberedSound clock) (drop i (rememberedOf s n)) ≡ false
-    unfolding every?
-    sound-instant l = rw (next, by-is, le-leb (getD s (REMEMBERED-WORDS * i) 0) largest a, lt-leb (getD s (REMEMBERED-WORDS * i + 1) 0) clock l)
-
-    pub sound-more : getD s (REMEMBERED-WORDS * i + 1) 0 ≤ clock → every? (rememberedSound clock) (drop i (rememberedOf s n)) ≡ every? (rememberedSound clock) (drop (i + 1) (rememberedOf s n))
-    unfolding every?
-    sound-more l = rw (next, by-is, le-leb (getD s (REMEMBERED-WORDS * i) 0) largest a, le-leb (getD s (REMEMBERED-WORDS * i + 1) 0) clock l)
 
 pub sound-end : (s : List ℕ) (n i clock : ℕ) → n ≤ i → every? (rememberedSound clock) (drop i (rememberedOf s n)) ≡ true
 unfolding every?

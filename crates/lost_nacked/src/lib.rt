@@ -4,14 +4,14 @@ ghost use mathlib.Core.Path.{_≡_};
 ghost use mathlib.Core.Bool.{true};
 ghost use mathlib.Core.List.{_++_, map};
 ghost use Prim.Native.Nat.{_+_, _*_, _-_, _≤_, min};
-ghost use lib.ListN.{length, drop};
+ghost use lib.ListN.{length, take, drop};
 ghost use Rattle.words.specs.Blocks.{laid};
 ghost use Rattle.words.specs.Words.{written};
 ghost use Rattle.model.specs.Lists.{keep, leading, every?};
 ghost use Rattle.model.specs.Rules.{once, instantOf, isOf, forgetFirst, MAX-LOST-NACKED, remember, rememberedAfter};
-ghost use Rattle.model.specs.Storage.{REMEMBERED-WORDS, GAP-WORDS, rememberedWords, rememberedOf, gapsOf};
+ghost use Rattle.model.specs.Storage.{REMEMBERED-WORDS, GAP-WORDS, rememberedWords, rememberedOfWords, rememberedOf, gapsOf};
 ghost use Rattle.packet_gaps.specs.Gaps.{gap};
-ghost use Rattle.lost_nacked.specs.Remembered.{RememberedIn, apart};
+ghost use Rattle.lost_nacked.specs.Remembered.{RememberedIn, remembered, apart};
 ghost use Rattle.model.specs.Valid.{rememberedSound};
 use packet_gaps::Gap;
 use rtp::ExtendedSequenceNumber;
@@ -23,6 +23,25 @@ pub const MAX_LOST_NACKED: usize = 1024;
 // Words of a remembered number's place.
 pub const REMEMBERED_WORDS: usize = 2;
 
+pub struct Remembered {
+    pub number: ExtendedSequenceNumber,
+    pub nacked_at: u64,
+}
+
+// The remembered number at place i.
+pub fn read(s: &[u64], i: usize) -> Remembered
+    requires { ⌜ REMEMBERED-WORDS * i + REMEMBERED-WORDS ≤ length (now s) ⌝ }
+    ensures { λ r. ⌜ remembered r ≡ rememberedOfWords (take REMEMBERED-WORDS (drop (REMEMBERED-WORDS * i) (now (s .entry)))) ⌝ }
+{
+    let at = REMEMBERED_WORDS * i;
+    let number = s[at];
+    let nacked_at = s[at + 1];
+    Remembered {
+        number: ExtendedSequenceNumber(number),
+        nacked_at,
+    }
+}
+
 // The place of the first with the number x, or n.
 fn position(s: &[u64], n: usize, x: ExtendedSequenceNumber) -> usize
     requires { ⌜ REMEMBERED-WORDS * n ≤ length (now s) ⌝ }
@@ -30,7 +49,8 @@ fn position(s: &[u64], n: usize, x: ExtendedSequenceNumber) -> usize
 {
     let mut i = 0;
     while i < n {
-        if s[REMEMBERED_WORDS * i] == x.0 {
+        let r = read(s, i);
+        if r.number.0 == x.0 {
             return i;
         }
         i += 1;
@@ -46,14 +66,14 @@ pub fn forget(s: &mut [u64], n: usize, x: ExtendedSequenceNumber) -> Opt
 {
     let k = position(s, n, x);
     if k < n {
-        let at = s[REMEMBERED_WORDS * k + 1];
+        let r = read(s, k);
         words::remove(
             s,
             REMEMBERED_WORDS * n,
             REMEMBERED_WORDS * k,
             REMEMBERED_WORDS,
         );
-        return Opt::Some(at);
+        return Opt::Some(r.nacked_at);
     }
     Opt::None
 }
@@ -146,10 +166,11 @@ pub fn are_sound(s: &[u64], n: usize, clock: u64) -> bool
 {
     let mut i = 0;
     while i < n {
-        if durations::LARGEST < s[REMEMBERED_WORDS * i] {
+        let r = read(s, i);
+        if durations::LARGEST < r.number.0 {
             return false;
         }
-        if clock < s[REMEMBERED_WORDS * i + 1] {
+        if clock < r.nacked_at {
             return false;
         }
         i += 1;

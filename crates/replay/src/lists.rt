@@ -37,8 +37,8 @@ fn remembered(out: &mut [u8], at: usize, words: &[u64], i: usize) -> usize {
     if words.len() / REMEMBERED_WORDS <= i {
         return at;
     }
-    let first = REMEMBERED_WORDS * i;
-    answers::state::remembered(out, at, words[first], words[first + 1])
+    let r = lost_nacked::read(words, i);
+    answers::state::remembered(out, at, r)
 }
 
 // The record in place i of a list; the bytes are those of the entries.

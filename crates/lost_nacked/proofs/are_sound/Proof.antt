@@ -5,6 +5,7 @@ use lib.ListN.{drop}
 use Rattle.model.specs.Lists.{every?}
 use Rattle.model.specs.Storage.{rememberedOf}
 use Rattle.model.specs.Valid.{rememberedSound}
+use Rattle.lost_nacked.specs.Remembered.{remembered}
 use Rattle.lost_nacked.proofs.Laws.{sound-number, sound-instant, sound-more, sound-end}
 use borrow.Author.Needs.{needs}
 use Rattle.lost_nacked.proofs.are_sound.Statement.{statement}
@@ -19,32 +20,22 @@ abbrev μ-loop : tie.MeasureT-loop
 loop-holds : tie.Need-loop-holds Inv-loop μ-loop
 loop-holds c = (refl, search needs)
 
-mul-if1 : tie.Need-mul-if1 Inv-loop μ-loop
-mul-if1 c = search needs
-
-mul-if1-2 : tie.Need-mul-if1-2 Inv-loop μ-loop
-mul-if1-2 c = search needs
-
-shared-slice-read-if1 : tie.Need-shared-slice-read-if1 Inv-loop μ-loop
-shared-slice-read-if1 c = search needs
+read-requires : tie.Need-read-requires Inv-loop μ-loop
+read-requires c κs = search needs
 
 returns : tie.Need-returns Inv-loop μ-loop
-returns c = let s = c .before .before .before .before in let l = c .before .before .before .loop in sym (l .inv .0 ∙ sound-number (s .args .s .now) (s .args .n) (l .i) (s .args .clock) (c .before .before .loop-test .taken) (c .if1 .taken))
-
-mul-if2 : tie.Need-mul-if2 Inv-loop μ-loop
-mul-if2 c = search needs
-
-add-if2 : tie.Need-add-if2 Inv-loop μ-loop
-add-if2 c = search needs
-
-mul-if2-2 : tie.Need-mul-if2-2 Inv-loop μ-loop
-mul-if2-2 c = search needs
-
-shared-slice-read-if2 : tie.Need-shared-slice-read-if2 Inv-loop μ-loop
-shared-slice-read-if2 c = search needs
+returns c =
+    let s = c .before .before .before .before .before .before in
+    let l = c .before .before .before .before .loop in
+    let r = c .before .before .read in
+    sym (l .inv .0 ∙ sound-number (s .args .s .now) (s .args .n) (l .i) (remembered (r .result)) (r .ensures) (c .before .before .before .loop-test .taken) (s .args .clock) (c .if1 .taken))
 
 returns-2 : tie.Need-returns-2 Inv-loop μ-loop
-returns-2 c = let s = c .before .before .before .before .before .before in let l = c .before .before .before .before .before .loop in sym (l .inv .0 ∙ sound-instant (s .args .s .now) (s .args .n) (l .i) (s .args .clock) (c .before .before .before .before .loop-test .taken) (c .before .before .if1 .left) (c .if2 .taken))
+returns-2 c =
+    let s = c .before .before .before .before .before .before .before .before in
+    let l = c .before .before .before .before .before .before .loop in
+    let r = c .before .before .before .before .read in
+    sym (l .inv .0 ∙ sound-instant (s .args .s .now) (s .args .n) (l .i) (remembered (r .result)) (r .ensures) (c .before .before .before .before .before .loop-test .taken) (s .args .clock) (c .before .before .if1 .left) (c .if2 .taken))
 
 add-i : tie.Need-add-i Inv-loop μ-loop
 add-i c = search needs
@@ -53,10 +44,14 @@ loop-less : tie.Need-loop-less Inv-loop μ-loop
 loop-less c = search needs
 
 loop-again : tie.Need-loop-again Inv-loop μ-loop
-loop-again c = let s = c .before .before .before .before .before .before in let l = c .before .before .before .before .before .loop in (l .inv .0 ∙ sound-more (s .args .s .now) (s .args .n) (l .i) (s .args .clock) (c .before .before .before .before .loop-test .taken) (c .before .before .if1 .left) (c .if2 .left), search needs)
+loop-again c =
+    let s = c .before .before .before .before .before .before .before .before in
+    let l = c .before .before .before .before .before .before .loop in
+    let r = c .before .before .before .before .read in
+    (l .inv .0 ∙ sound-more (s .args .s .now) (s .args .n) (l .i) (remembered (r .result)) (r .ensures) (c .before .before .before .before .before .loop-test .taken) (s .args .clock) (c .before .before .if1 .left) (c .if2 .left), search needs)
 
 returns-3 : tie.Need-returns-3 Inv-loop μ-loop
-returns-3 c = let s = c .before .before in let l = c .before .loop in sym (l .inv .0 ∙ sound-end (s .args .s .now) (s .args .n) (l .i) (s .args .clock) (c .loop-test .left))
+returns-3 c = let s = c .before .before .before in let l = c .before .loop in sym (l .inv .0 ∙ sound-end (s .args .s .now) (s .args .n) (l .i) (s .args .clock) (c .loop-test .left))
 
 pub are-sound-spec : {M : Type 1} → statement M
 are-sound-spec =
@@ -65,14 +60,8 @@ are-sound-spec =
     Inv-loop
     μ-loop
     loop-holds
-    mul-if1
-    mul-if1-2
-    shared-slice-read-if1
+    read-requires
     returns
-    mul-if2
-    add-if2
-    mul-if2-2
-    shared-slice-read-if2
     returns-2
     add-i
     loop-less

@@ -1,5 +1,6 @@
 -- `forget`: the words of the first of the number go, or nothing does.
 use mathlib.Core.Path.{_∙_}
+use Rattle.lost_nacked.specs.Remembered.{remembered}
 use Rattle.lost_nacked.proofs.Laws.{forget-instant, forget-words, forget-none, forget-same}
 use borrow.Author.Needs.{needs}
 use Rattle.lost_nacked.proofs.forget.Statement.{statement}
@@ -8,17 +9,8 @@ use Rattle.lost_nacked.proofs.forget.Tie as tie
 position-requires : tie.Need-position-requires
 position-requires c κs = search needs
 
-mul-at : tie.Need-mul-at
-mul-at c = search needs
-
-add-at : tie.Need-add-at
-add-at c = search needs
-
-mul-at-2 : tie.Need-mul-at-2
-mul-at-2 c = search needs
-
-slice-read-at : tie.Need-slice-read-at
-slice-read-at c = search needs
+read-requires : tie.Need-read-requires
+read-requires c κs = search needs
 
 mul-remove : tie.Need-mul-remove
 mul-remove c = search needs
@@ -33,7 +25,12 @@ same-length : tie.Need-same-length
 same-length c = search needs
 
 returns : tie.Need-returns
-returns c = let s = c .before .before .before .before .before .before .before .before .before in (forget-instant (s .args .s .now) (s .args .n) (s .args .x .0) (c .before .before .before .before .before .before .position .result) (s .pre) (c .before .before .before .before .before .before .position .ensures) (c .before .before .before .before .before .if1 .taken), c .before .before .remove .ensures ∙ forget-words (s .args .s .now) (s .args .n) (s .args .x .0) (c .before .before .before .before .before .before .position .result) (s .pre) (c .before .before .before .before .before .before .position .ensures) (c .before .before .before .before .before .if1 .taken))
+returns c =
+    let s = c .before .before .before .before .before .before .before .before .before .before in
+    let p = c .before .before .before .before .before .before .before .position in
+    let t = c .before .before .before .before .before .before .if1 .taken in
+    let r = c .before .before .before .before .read in
+    (forget-instant (s .args .s .now) (s .args .n) (s .args .x .0) (p .result) (s .pre) (p .ensures) t (remembered (r .result)) (r .ensures), c .before .before .remove .ensures ∙ forget-words (s .args .s .now) (s .args .n) (s .args .x .0) (p .result) (s .pre) (p .ensures) t)
 
 same-length-2 : tie.Need-same-length-2
 same-length-2 c = search needs
@@ -46,10 +43,7 @@ forget-spec =
     tie.close
     (tie.spec
     position-requires
-    mul-at
-    add-at
-    mul-at-2
-    slice-read-at
+    read-requires
     mul-remove
     mul-remove-2
     remove-requires

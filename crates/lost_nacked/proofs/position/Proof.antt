@@ -5,7 +5,7 @@ use native.Mathlib.Omega.{arith}
 use lib.ListN.{length, drop}
 use Rattle.model.specs.Lists.{leading}
 use Rattle.model.specs.Storage.{rememberedOf}
-use Rattle.lost_nacked.specs.Remembered.{apart}
+use Rattle.lost_nacked.specs.Remembered.{remembered, apart}
 use Rattle.lost_nacked.proofs.Laws.{position-found, position-more, position-end}
 use borrow.Author.Needs.{needs}
 use Rattle.lost_nacked.proofs.position.Statement.{statement}
@@ -20,17 +20,15 @@ abbrev μ-loop : tie.MeasureT-loop
 loop-holds : tie.Need-loop-holds Inv-loop μ-loop
 loop-holds c = (omega arith, search needs)
 
-mul-if1 : tie.Need-mul-if1 Inv-loop μ-loop
-mul-if1 c = search needs
-
-mul-if1-2 : tie.Need-mul-if1-2 Inv-loop μ-loop
-mul-if1-2 c = search needs
-
-shared-slice-read-if1 : tie.Need-shared-slice-read-if1 Inv-loop μ-loop
-shared-slice-read-if1 c = search needs
+read-requires : tie.Need-read-requires Inv-loop μ-loop
+read-requires c κs = search needs
 
 returns : tie.Need-returns Inv-loop μ-loop
-returns c = let s = c .before .before .before .before .before in let l = c .before .before .before .before .loop in omega (arith, l .inv .0, position-found (s .args .s .now) (s .args .n) (l .i) (s .args .x .0) (c .before .before .before .loop-test .taken) (c .if1 .taken))
+returns c =
+    let s = c .before .before .before .before .before .before .before in
+    let l = c .before .before .before .before .before .loop in
+    let r = c .before .before .before .read in
+    omega (arith, l .inv .0, position-found (s .args .s .now) (s .args .n) (l .i) (remembered (r .result)) (r .ensures) (c .before .before .before .before .loop-test .taken) (s .args .x .0) (c .if1 .taken))
 
 add-i : tie.Need-add-i Inv-loop μ-loop
 add-i c = search needs
@@ -39,10 +37,14 @@ loop-less : tie.Need-loop-less Inv-loop μ-loop
 loop-less c = search needs
 
 loop-again : tie.Need-loop-again Inv-loop μ-loop
-loop-again c = let s = c .before .before .before .before .before in let l = c .before .before .before .before .loop in (omega (arith, l .inv .0, position-more (s .args .s .now) (s .args .n) (l .i) (s .args .x .0) (c .before .before .before .loop-test .taken) (c .if1 .left)), search needs)
+loop-again c =
+    let s = c .before .before .before .before .before .before .before in
+    let l = c .before .before .before .before .before .loop in
+    let r = c .before .before .before .read in
+    (omega (arith, l .inv .0, position-more (s .args .s .now) (s .args .n) (l .i) (remembered (r .result)) (r .ensures) (c .before .before .before .before .loop-test .taken) (s .args .x .0) (c .if1 .left)), search needs)
 
 returns-2 : tie.Need-returns-2 Inv-loop μ-loop
-returns-2 c = let s = c .before .before in let l = c .before .loop in omega (arith, l .inv .0, position-end (s .args .s .now) (s .args .n) (l .i) (s .args .x .0) (c .loop-test .left))
+returns-2 c = let s = c .before .before .before in let l = c .before .loop in omega (arith, l .inv .0, position-end (s .args .s .now) (s .args .n) (l .i) (s .args .x .0) (c .loop-test .left))
 
 pub position-spec : {M : Type 1} → statement M
 position-spec =
@@ -51,9 +53,7 @@ position-spec =
     Inv-loop
     μ-loop
     loop-holds
-    mul-if1
-    mul-if1-2
-    shared-slice-read-if1
+    read-requires
     returns
     add-i
     loop-less
