@@ -68,7 +68,7 @@ fn add_timesteps(timestamp: ExtendedRtpTimestamp, steps: i64) -> OptTimestamp
     }
 }
 
-// Nanoseconds until the front packet, that of the earliest timestamp, is due.
+// Nanoseconds until the front packet, whose timestamp 000 takes for the earliest, is due.
 pub fn timeout_receive(
     last_instant: u64,
     last_timestamp: ExtendedRtpTimestamp,

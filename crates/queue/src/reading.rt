@@ -67,7 +67,7 @@ fn receive_timeout(q: Queue, entries: &[u64], n: usize, now: u64) -> Opt
     }
 }
 
-// Nanoseconds until `poll` has a packet to hand out.
+// Nanoseconds until `poll` should be called; it may hand out nothing then (docs/USING.md, "Driving it").
 pub fn timeout_receive(
     session: Session,
     entries: &mut [u64],
@@ -93,7 +93,7 @@ pub fn timeout_receive(
     TimeoutAnswer::Timeout(receive_timeout(session.queue, entries, session.entries, now))
 }
 
-// Nanoseconds until `poll_nack` has a number to give.
+// Nanoseconds until `poll_nack` should be called; it may give a number up in the place of a NACK.
 pub fn timeout_nack(
     session: Session,
     entries: &mut [u64],
