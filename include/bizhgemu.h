@@ -168,7 +168,7 @@ struct bizhgemu_polled_nack {
 	struct bizhgemu_session session;
 };
 
-/* The time from `now` until there is something to do; no timeout: nothing to wait for. */
+/* The time from `now` until a packet or a NACK should be asked for; there may be none then (docs/USING.md). No timeout: nothing to wait for. */
 struct bizhgemu_timeout {
 	uint64_t refusal;
 	uint64_t has_timeout;
@@ -264,10 +264,10 @@ struct bizhgemu_polled bizhgemu_poll(struct bizhgemu_session session, BIZHGEMU_S
 struct bizhgemu_polled_nack bizhgemu_poll_nack(struct bizhgemu_session session, BIZHGEMU_STORAGE,
 	uint64_t now, uint16_t *out, size_t out_len);
 
-/* The time until `poll` hands out the next packet. Does not advance the clock. Refused under 16, 8. */
+/* The time until `poll` should be called. Does not advance the clock. Refused under 16, 8. */
 struct bizhgemu_timeout bizhgemu_timeout_receive(struct bizhgemu_session session, BIZHGEMU_STORAGE, uint64_t now);
 
-/* The time until `poll_nack` has a number. Does not advance the clock. Refused under 16, 8. */
+/* The time until `poll_nack` should be called. Does not advance the clock. Refused under 16, 8. */
 struct bizhgemu_timeout bizhgemu_timeout_nack(struct bizhgemu_session session, BIZHGEMU_STORAGE, uint64_t now);
 
 /* The figures of repairs. Refused under 16. */

@@ -4,7 +4,7 @@ use std::time::Duration;
 #[derive(Clone, Copy, Debug, PartialEq, Eq)]
 pub enum Media {
     /// It waits to be handed out. With [`Config::max_entries`](crate::Config::max_entries) already waiting, the front one was
-    /// pushed out.
+    /// pushed out, which may be this very packet.
     Queued,
     /// A duplicate, or too late. Many in a row: the sender restarted, and a new session is due.
     Dropped,
@@ -17,7 +17,7 @@ pub enum Repair {
     Recovered,
     /// Nothing was missing under its number.
     Redundant,
-    /// A packet with this number or a later one was already handed out.
+    /// In sorted mode: this number or a later one was already handed out or pushed out.
     TooLate,
 }
 
@@ -64,7 +64,7 @@ pub struct Figures {
 pub struct RtxStats {
     /// Repairs that filled a gap.
     pub packets_received_in_time: u64,
-    /// Repairs that came after their place was handed out.
+    /// Repairs of numbers at or below the one last handed out or pushed out.
     pub packets_received_too_late: u64,
     /// Repairs of numbers that were not missing.
     pub packets_received_redundant: u64,

@@ -265,11 +265,20 @@ fn output_after_the_answer_keeps_its_bytes() {
     assert!(lent.payload[1..].iter().all(|byte| *byte == 0xaa));
 }
 
+/// Zeros wherever the session has nothing, the tails of payloads' places among them.
+fn has_zeros(session: &ffi::Session, storage: &Storage) -> bool {
+    let Storage { entries, payloads, gaps, remembered } = storage;
+    let (used, unused) = payloads.split_at(320 * session.entries);
+    let words =
+        [&entries[4 * session.entries..], &gaps[4 * session.gaps..], &remembered[2 * session.remembered..]].concat();
+    let tails = used.chunks(320).zip(entries.chunks(4)).flat_map(|(place, entry)| &place[(entry[3] / 2) as usize..]);
+    words.iter().all(|word| *word == 0) && tails.chain(unused).all(|byte| *byte == 0)
+}
+
 #[test]
 fn unused_places_are_cleared() {
     let clean = lent();
-    let Storage { entries, gaps, remembered, .. } = &clean.storage;
-    assert!([&entries[8..], &gaps[4..], &remembered[2..]].concat().iter().all(|word| *word == 0));
+    assert!(has_zeros(&clean.session, &clean.storage));
     let mut marked = clean.clone();
     let Storage { entries, payloads, gaps, remembered } = &mut marked.storage;
     entries[8..].fill(u64::MAX);
@@ -281,8 +290,11 @@ fn unused_places_are_cleared() {
         let (mut clean, mut marked) = (clean.clone(), marked.clone());
         let now = clean.session.clock;
         assert_eq!((call(&mut clean, now), call(&mut marked, now)), (0, 0));
-        assert!(clean == marked);
+        assert!(clean == marked && has_zeros(&marked.session, &marked.storage));
     }
+    let opened = lend!(bizhgemu_open, marked.session.config, marked.storage);
+    assert_eq!((opened.refusal, opened.session.entries), (0, 0));
+    assert!(has_zeros(&opened.session, &marked.storage));
 }
 
 #[test]
@@ -309,7 +321,8 @@ fn an_instant_past_the_last_is_refused() {
         assert_eq!(queue.push_rtx(late, &repair(14, 640, &[])), Err(Refusal::Clock));
         assert_eq!(queue.poll(late), Err(Refusal::Clock));
         assert_eq!(queue.poll_nack(late), Err(Refusal::Clock));
-        assert_eq!(queue.timeout(late), Err(Refusal::Clock));
+        assert_eq!(queue.timeout_receive(late), Err(Refusal::Clock));
+        assert_eq!(queue.timeout_nack(late), Err(Refusal::Clock));
     }
     assert_eq!((queue.session, &queue.storage), (session, &storage));
     assert!(queue.poll(crate::LATEST).is_ok());

@@ -191,7 +191,7 @@ impl Queue {
         Ok(&self.numbers[..polled.count])
     }
 
-    /// The time from `now` to the next packet that [`poll`](Queue::poll) hands out; none while nothing waits.
+    /// The time from `now` until [`poll`](Queue::poll) should be called; none while nothing waits. It may hand out nothing then.
     ///
     /// # Errors
     ///
@@ -201,7 +201,8 @@ impl Queue {
         timeout(answer)
     }
 
-    /// The time from `now` to the next number that [`poll_nack`](Queue::poll_nack) names; none while nothing is missing.
+    /// The time from `now` until [`poll_nack`](Queue::poll_nack) should be called; none while nothing is missing. It may name
+    /// nothing then.
     ///
     /// # Errors
     ///

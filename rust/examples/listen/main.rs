@@ -15,8 +15,8 @@ use std::process::ExitCode;
 use std::time::Duration;
 
 const SECOND: Duration = Duration::from_secs(1);
-/// A socket's read timeout must not be zero.
-const SHORTEST_WAIT: Duration = Duration::from_micros(1);
+/// A timeout of zero may come with nothing to do (docs/USING.md, "Driving it").
+const SHORTEST_WAIT: Duration = Duration::from_millis(1);
 
 fn main() -> ExitCode {
     let options = match Options::read(std::env::args().skip(1)) {
