@@ -9,8 +9,8 @@ use Rattle.entries.specs.declared.Entry.{Entry}
 use Rattle.lost_nacked.specs.declared.Remembered.{Remembered}
 use Rattle.model.specs.declared.LastReceived.{LastReceived}
 use Rattle.model.specs.declared.LastReceived.the-variants as LastReceived
-use Rattle.model.specs.declared.LastReturned.{LastReturned}
-use Rattle.model.specs.declared.LastReturned.the-variants as LastReturned
+use Rattle.rtp.specs.declared.opt.OptNumber.{OptNumber}
+use Rattle.rtp.specs.declared.opt.OptNumber.the-variants as OptNumber
 use Rattle.model.specs.declared.Queue.{Queue}
 use Rattle.model.specs.declared.Session.{Session}
 use Rattle.packet_gaps.specs.declared.Gap.{Gap}
@@ -45,9 +45,9 @@ receivedFields LastReceived.None = ascii " - - -" ∷ []
 receivedFields (LastReceived.Some r) = field (decimal (r .instant)) ∷ (field (decimal (r .timestamp .0)) ∷ (field (decimal (r .number .0)) ∷ []))
 
 -- RETURNED
-unfoldable pub returnedField : LastReturned → List ℕ
-returnedField LastReturned.None = noneField
-returnedField (LastReturned.Some n) = field (decimal (n .0))
+unfoldable pub returnedField : OptNumber → List ℕ
+returnedField OptNumber.None = noneField
+returnedField (OptNumber.Some n) = field (decimal (n .0))
 
 -- SRTT VARIATION
 unfoldable pub rttFields : OptRtt → List (List ℕ)

@@ -7,11 +7,11 @@ ghost use Rattle.answers.specs.State.{entryLine, nackedOf, gapLine, reme
 use entries::Entry;
 use lost_nacked::Remembered;
 use model::LastReceived;
-use model::LastReturned;
 use model::Queue;
 use model::Session;
 use packet_gaps::Gap;
 use rtp::opt::Opt;
+use rtp::opt::OptNumber;
 use rtx_state::OptRtt;
 use rtx_state::RtxState;
 
@@ -46,12 +46,12 @@ fn last_received(out: &mut [u8], at: usize, last: LastReceived) -> usize
     }
 }
 
-fn last_returned(out: &mut [u8], at: usize, returned: LastReturned) -> usize
+fn last_returned(out: &mut [u8], at: usize, returned: OptNumber) -> usize
     ensures { λ r. ⌜ output (now (out .exit)) r ≡ put (returnedField returned) (output (now (out .entry)) at) ⌝ }
 {
     match returned {
-        LastReturned::None => put::text(out, at, b" -"),
-        LastReturned::Some(n) => put::number(out, at, n.0),
+        OptNumber::None => put::text(out, at, b" -"),
+        OptNumber::Some(n) => put::number(out, at, n.0),
     }
 }
 

@@ -7,4 +7,3 @@ pub mod Past
 pub mod Same
 pub mod Moved
 pub mod Theorem
-pub mod Order

@@ -4,7 +4,7 @@ use mathlib.Core.Path.{_≡_, refl, sym, _∙_}
 use mathlib.Core.Logic.{_⊎_, inl, inr}
 use mathlib.Core.Bool.{Bool, true, false, cond}
 use mathlib.Core.List.{List, [], _∷_, _++_, map, append-nil, append-assoc}
-use Prim.Native.Nat.{ℕ, zero, suc, _+_, _-_, _%_, _^_}
+use Prim.Native.Nat.{ℕ, zero, suc, _+_, _-_}
 use native.Mathlib.Omega.{arith}
 use lib.Dec.{leb, ltb, nleb→lt}
 use lib.ListN.{length, length-append, length-map}
@@ -12,9 +12,11 @@ use Rattle.rtp_packet.specs.Header.{sequenceNumber, payloadOf}
 use Rattle.rtp_packet.specs.Original.{originalNumber}
 use Rattle.config.specs.declared.RtpInboundQueueMode.{RtpInboundQueueMode}
 use Rattle.model.specs.declared.Config.{Config}
+use Rattle.rtp.specs.Numbers.{lowBits}
 use Rattle.model.specs.Lists.{some?}
-use Rattle.model.specs.Records.{Entry, Gap, State, entryNumbers, gapNumbers, returnedOf}
-use Rattle.model.specs.Rules.{is, Place, placeOf, waits, MAX-GAP-SIZE, givenUp, lostBelow}
+use Rattle.rtp.specs.Opt.{numberOf}
+use Rattle.model.specs.Records.{Entry, Gap, State, entryNumbers, gapNumbers}
+use Rattle.model.specs.Rules.{is, Place, placeOf, waits, MAX-GAP-SIZE, overfull, givenUp, lostBelow}
 use Rattle.model.specs.Push as P
 use Rattle.model.specs.Push.{insertSorted, mediaEntry, mediaPlace, heard, countDropped, countReceived, afterQueued, afterDropped, frontOut, afterMedia, Fate, tooLate, recovered, redundant, repairEntry, repairFate, afterFate, afterRepair}
 use Rattle.model.specs.Poll.{lose, countLost, drained, ready, handsOut, goingOut, handOut, afterPoll, afterPollNack}
@@ -22,7 +24,7 @@ use Rattle.model.specs.Poll as Q
 use Rattle.model.specs.Calls.{Call, media, repair, poll, pollNack, timeoutReceive, timeoutNack, rtxStats, highestReceived, queued, dropped, packetOf, handed, nackAnswer, taken, answered}
 use Rattle.model.proofs.Lists.{by-cases, Each, each-first, each-imp, each-insert}
 use Rattle.book.specs.Book as B
-use Rattle.book.specs.Book.{Heard, refused, accepted, Span, none, fromTo, Book, arrive, forgottenBy, pushOut, overfull, withinDepth, onMedia, recover, onRepair, giveUp, takeLowest, onPoll, read, enter}
+use Rattle.book.specs.Book.{Heard, refused, accepted, Span, none, fromTo, Book, arrive, forgottenBy, pushOut, withinDepth, onMedia, recover, onRepair, giveUp, takeLowest, onPoll, read, enter}
 use Rattle.book.specs.Claim.{hear, given, Forgets, step-over, push-out, ForgetsBy, by-media}
 use Rattle.model.proofs.Sound.{Ahead, ListsOf}
 use Rattle.model.proofs.SoundPush.{waiting-stands}
@@ -52,7 +54,7 @@ unfolding onMedia withinDepth arrive Keeps
 media-keeps c now n p b =
     by-cases (Keeps b) (waits p)
     (λ t.
-    by-cases (Keeps b) (overfull (c .settings .«max_entries») (arrive now n p b)) (λ u. pushOut-keeps (arrive now n p b .waiting) (arrive now n p b)) (λ u. (refl, refl)))
+    by-cases (Keeps b) (overfull (c .settings) (length (arrive now n p b .waiting))) (λ u. pushOut-keeps (arrive now n p b .waiting) (arrive now n p b)) (λ u. (refl, refl)))
     (λ t. (refl, refl))
 
 repair-keeps : (now n : ℕ) (b : Book) → Keeps b (onRepair now n b)
@@ -76,7 +78,7 @@ media-counts now d s =
     let x : Entry = mediaEntry now d (s .queue) in
     let p : Place = mediaPlace s (x .number) in
     by-cases goes (waits p)
-    (λ t. by-cases goes (P.overfull (afterQueued now x p s)) (λ u. frontOut-counts (afterQueued now x p s .entries) (afterQueued now x p s)) (λ u. refl))
+    (λ t. by-cases goes (overfull (afterQueued now x p s .queue .config .settings) (length (afterQueued now x p s .entries))) (λ u. frontOut-counts (afterQueued now x p s .entries) (afterQueued now x p s)) (λ u. refl))
     (λ t. refl)
   where
     goes : State → Type 0
@@ -138,11 +140,11 @@ unfolding given
 given-media true = refl
 given-media false = refl
 
-given-poll : (now : ℕ) (s : State) (es : List Entry) → given (handed (s .queue) (goingOut now s es)) ≡ map (λ (n : ℕ). n % 2 ^ 16) (entryNumbers (goingOut now s es))
+given-poll : (now : ℕ) (s : State) (es : List Entry) → given (handed (s .queue) (goingOut now s es)) ≡ map (lowBits 16) (entryNumbers (goingOut now s es))
 unfolding given handed goingOut handsOut packetOf
 given-poll now s [] = refl
 given-poll now s (x ∷ es) =
-    by-cases (λ (l : List Entry). given (handed (s .queue) l) ≡ map (λ (n : ℕ). n % 2 ^ 16) (entryNumbers l)) (ready (s .queue) now (x .timestamp)) (λ t. refl) (λ t. refl)
+    by-cases (λ (l : List Entry). given (handed (s .queue) l) ≡ map (lowBits 16) (entryNumbers l)) (ready (s .queue) now (x .timestamp)) (λ t. refl) (λ t. refl)
 
 given-nack : (n : ℕ) → given (nackAnswer n) ≡ []
 unfolding given nackAnswer
@@ -150,7 +152,7 @@ given-nack zero = refl
 given-nack (suc n) = refl
 
 -- `poll` returns them as 16 bits
-pub given-out : (k : Call) (s : State) → given (answered k s) ≡ map (λ (n : ℕ). n % 2 ^ 16) (outOf k s)
+pub given-out : (k : Call) (s : State) → given (answered k s) ≡ map (lowBits 16) (outOf k s)
 unfolding answered outOf given
 given-out (media now d) s = given-media (waits (mediaPlace s (mediaEntry now d (s .queue) .number)))
 given-out (repair now d) s = refl
@@ -187,13 +189,13 @@ module _ (s : State) (out : List ℕ) (l : ListsOf s) (past : PastOf (s .queue .
   mode = s .queue .config .settings .mode
 
   abbrev Above : Entry → Type 0
-  Above x = Ahead mode (returnedOf (s .queue .returned)) (x .number)
+  Above x = Ahead mode (numberOf (s .queue .returned)) (x .number)
 
   frontOut-past : (es : List Entry) (s′ : State) → Each Above es → s′ .queue .returned ≡ s .queue .returned → s′ .remembered ≡ s .remembered → PastOf mode out (frontOut es s′)
-  unfolding frontOut returnedOf
+  unfolding frontOut numberOf
   frontOut-past [] s′ t e e′ = rw (e, e′) past
   frontOut-past (x ∷ xs) s′ t e e′ =
-      rw e′ (past-advance mode (returnedOf (s .queue .returned)) (x .number) out (s .remembered) (each-first t) past)
+      rw e′ (past-advance mode (numberOf (s .queue .returned)) (x .number) out (s .remembered) (each-first t) past)
 
   entries-above : Each Above (s .entries)
   entries-above = each-imp (λ x h. h .ahead) (l .entries-in)
@@ -205,7 +207,7 @@ module _ (s : State) (out : List ℕ) (l : ListsOf s) (past : PastOf (s .queue .
       let p : Place = mediaPlace s (x .number) in
       by-cases (PastOf mode out) (waits p)
       (λ t.
-      by-cases (PastOf mode out) (P.overfull (afterQueued now x p s))
+      by-cases (PastOf mode out) (overfull (afterQueued now x p s .queue .config .settings) (length (afterQueued now x p s .entries)))
       (λ u.
       frontOut-past (insertSorted x (s .entries)) (afterQueued now x p s)
       (each-insert x (waiting-stands s (x .number) t .0) entries-above) refl refl)
@@ -214,17 +216,17 @@ module _ (s : State) (out : List ℕ) (l : ListsOf s) (past : PastOf (s .queue .
 
   repair-past : (now : ℕ) (x : Entry) (fate : Fate) → PastOf mode out (afterFate now x fate s)
   unfolding afterFate
-  repair-past now x tooLate = past-forget mode (returnedOf (s .queue .returned)) (x .number) out (s .remembered) past
+  repair-past now x tooLate = past-forget mode (numberOf (s .queue .returned)) (x .number) out (s .remembered) past
   repair-past now x recovered = past
   repair-past now x redundant = past
 
   poll-past : (now : ℕ) (es : List Entry) → Each Above es → PastOf mode (out ++ entryNumbers (goingOut now s es)) (handOut (goingOut now s es) (drained now s))
-  unfolding goingOut handsOut handOut drained lose returnedOf
+  unfolding goingOut handsOut handOut drained lose numberOf
   poll-past now [] t = rw append-nil past
   poll-past now (x ∷ xs) t =
       by-cases goes (ready (s .queue) now (x .timestamp))
       (λ u.
-      past-hand mode (returnedOf (s .queue .returned)) (x .number) out (s .remembered) (s .queue .config .senders .«has_rtx») (drained now s .gaps)
+      past-hand mode (numberOf (s .queue .returned)) (x .number) out (s .remembered) (s .queue .config .senders .«has_rtx») (drained now s .gaps)
       (each-first t) past)
       (λ u. rw append-nil past)
     where
@@ -267,7 +269,7 @@ unfolding onMedia withinDepth
 media-forgets c now n b =
     by-cases goes (waits (placeOf (B.highest (b .span)) (b .missing) n))
     (λ t.
-    by-cases goes (overfull (c .settings .«max_entries») (arrive now n (placeOf (B.highest (b .span)) (b .missing) n) b)) (λ u. inr (push-out t u))
+    by-cases goes (overfull (c .settings) (length (arrive now n (placeOf (B.highest (b .span)) (b .missing) n) b .waiting))) (λ u. inr (push-out t u))
     (λ u. arrive-forgets c now n b (b .span) refl))
     (λ t. inl refl)
   where

@@ -7,18 +7,20 @@ use mathlib.Core.List.{List, [], _∷_, _++_}
 use Prim.Native.Nat.{ℕ, _+_, _-_, _≤_, _<_}
 use native.Mathlib.Omega.{arith}
 use lib.Arith.{le→nltb}
-use lib.Dec.{T, T-not, not-T, ltb, leb→le, le→leb, ltb→lt}
+use lib.Ieee.Fits.{and-l, and-r, and-i}
+use lib.Dec.{T, T-not, not-T, ltb, leb→le, le→leb, ltb→lt, lt→ltb}
 use lib.Ieee.Bits.{cond-no}
 use Rattle.rtp.specs.declared.opt.Opt.{Opt}
 use Rattle.rtp.specs.declared.opt.Opt.the-variants.{None, Some}
 use Rattle.config.specs.declared.RtpInboundQueueMode.{RtpInboundQueueMode}
 use Rattle.config.specs.declared.RtpInboundQueueMode.the-variants.{Passthrough, SortedQueue}
+use Rattle.words.specs.Order.{leads, ascends}
 use Rattle.model.specs.Lists.{keep, some?}
-use Rattle.model.specs.Records.{Gap, Remembered, State, highestOf, returnedOf}
+use Rattle.rtp.specs.Opt.{numberOf}
+use Rattle.model.specs.Records.{Gap, Remembered, State, highestOf}
 use Rattle.model.specs.Rules.{is, below, gapsBelow, Place, other, placeOf, isOf, forgetFirst, latest, remember, rememberedAfter, lostBelow}
 use Rattle.model.specs.Push.{atOrBelow, passed, mediaPlace}
 use Rattle.model.proofs.Lists.{by-cases, no-eqb, Each, none, more, each-first, each-rest, each-imp, each-append, each-kept, holds-of-some}
-use Rattle.book.specs.Sorted.{AllAbove, Ascending}
 use Rattle.model.proofs.Sound.{Reached, Ahead, Returned, ListsOf}
 use Rattle.model.proofs.SoundPoll.{each-remembered}
 
@@ -36,18 +38,18 @@ passed-other SortedQueue (Some m) (Some h) gaps n t u f =
     ∙ cond-no (some? (is n) gaps) _ _ (not-T (some? (is n) gaps) (λ v. absurd (omega (arith, f v, leb→le n m t))))
 
 module _ (s : State) (l : ListsOf s) where
-  pub gap-ahead : (n : ℕ) → T (some? (is n) (s .gaps)) → Ahead (s .queue .config .settings .mode) (returnedOf (s .queue .returned)) n
+  pub gap-ahead : (n : ℕ) → T (some? (is n) (s .gaps)) → Ahead (s .queue .config .settings .mode) (numberOf (s .queue .returned)) n
   gap-ahead n t =
-      holds-of-some (Ahead (s .queue .config .settings .mode) (returnedOf (s .queue .returned))) n (s .gaps) t (each-imp (λ g h. h .ahead) (l .gaps-in))
+      holds-of-some (Ahead (s .queue .config .settings .mode) (numberOf (s .queue .returned))) n (s .gaps) t (each-imp (λ g h. h .ahead) (l .gaps-in))
 
   -- so the queue's place of a media number is the book's
   pub same-place : (n : ℕ) → mediaPlace s n ≡ placeOf (highestOf (s .queue .last)) (s .gaps) n
   unfolding mediaPlace
   same-place n =
-      by-cases (λ (p : Place). p ≡ placeOf (highestOf (s .queue .last)) (s .gaps) n) (passed (s .queue .config .settings .mode) (returnedOf (s .queue .returned)) n)
+      by-cases (λ (p : Place). p ≡ placeOf (highestOf (s .queue .last)) (s .gaps) n) (passed (s .queue .config .settings .mode) (numberOf (s .queue .returned)) n)
       (λ t.
       sym
-      (passed-other (s .queue .config .settings .mode) (returnedOf (s .queue .returned)) (highestOf (s .queue .last)) (s .gaps) n t (l .returned-in) (gap-ahead n)))
+      (passed-other (s .queue .config .settings .mode) (numberOf (s .queue .returned)) (highestOf (s .queue .last)) (s .gaps) n t (l .returned-in) (gap-ahead n)))
       (λ t. refl)
 
 -- ---- numbers handed out, and remembered
@@ -55,17 +57,17 @@ module _ (s : State) (l : ListsOf s) where
 -- of the last returned, the numbers handed out and those remembered
 unfoldable pub Past : RtpInboundQueueMode → Opt → List ℕ → List Remembered → Type 0
 Past Passthrough r out l = l ≡ []
-Past SortedQueue r out l = Ascending out × (Each (λ (n : ℕ). T (atOrBelow n r)) out × Each (λ (x : Remembered). T (atOrBelow (x .number) r)) l)
+Past SortedQueue r out l = T (ascends out) × (Each (λ (n : ℕ). T (atOrBelow n r)) out × Each (λ (x : Remembered). T (atOrBelow (x .number) r)) l)
 
 abbrev pub PastOf : RtpInboundQueueMode → List ℕ → State → Type 0
-PastOf mode out s = Past mode (returnedOf (s .queue .returned)) out (s .remembered)
+PastOf mode out s = Past mode (numberOf (s .queue .returned)) out (s .remembered)
 
 pub past-none : (mode : RtpInboundQueueMode) → Past mode None [] []
-unfolding Past Ascending
+unfolding Past ascends
 past-none Passthrough = refl
 past-none SortedQueue = (tt, (none, none))
 
-pub past-ascends : (r : Opt) (out : List ℕ) (l : List Remembered) → Past SortedQueue r out l → Ascending out
+pub past-ascends : (r : Opt) (out : List ℕ) (l : List Remembered) → Past SortedQueue r out l → T (ascends out)
 unfolding Past
 past-ascends r out l p = p .0
 
@@ -93,11 +95,12 @@ unfolding Past
 past-advance Passthrough r w out l a p = p
 past-advance SortedQueue r w out l a p = (p .0, (each-imp (stays r w a) (p .1 .0), remembered-stay r w a (p .1 .1)))
 
-ascending-more : (l : List ℕ) (w : ℕ) → Ascending l → Each (λ (n : ℕ). n < w) l → Ascending (l ++ (w ∷ []))
-unfolding Ascending AllAbove
-ascending-more [] w a h = tt
-ascending-more (x ∷ []) w a h = (each-first h, tt)
-ascending-more (x ∷ y ∷ ys) w a h = (a .0, ascending-more (y ∷ ys) w (a .1) (each-rest h))
+ascends-more : (l : List ℕ) (w : ℕ) → T (ascends l) → Each (λ (n : ℕ). n < w) l → T (ascends (l ++ (w ∷ [])))
+unfolding ascends leads
+ascends-more [] w a h = tt
+ascends-more (x ∷ []) w a h = and-i (ltb x w) true (lt→ltb x w (each-first h)) tt
+ascends-more (x ∷ y ∷ ys) w a h =
+    and-i (ltb x y) (ascends (y ∷ (ys ++ (w ∷ [])))) (and-l (ltb x y) (ascends (y ∷ ys)) a) (ascends-more (y ∷ ys) w (and-r (ltb x y) (ascends (y ∷ ys)) a) (each-rest h))
 
 -- the lost gaps that are remembered are below the one handed out
 each-lost : (w : ℕ) (gaps : List Gap) → Each (λ (g : Gap). T (atOrBelow (g .number) (Some w))) (gapsBelow w gaps)
@@ -116,7 +119,7 @@ pub past-hand : (mode : RtpInboundQueueMode) (r : Opt) (w : ℕ) (out : List ℕ
 unfolding Past lostBelow remember
 past-hand Passthrough r w out l has gaps a p = ap (rememberedAfter has []) p ∙ none-remembered has
 past-hand SortedQueue r w out l has gaps a p = (
-  ascending-more out w (p .0) (each-imp (λ n t. before r w n a t) (p .1 .0)),
+  ascends-more out w (p .0) (each-imp (λ n t. before r w n a t) (p .1 .0)),
   (
     each-append (each-imp (stays r w a) (p .1 .0)) (more (at-most w w (omega arith)) none),
     each-remembered (λ (x : Remembered). T (atOrBelow (x .number) (Some w))) has (each-lost w gaps) (remembered-stay r w a (p .1 .1)),

@@ -19,8 +19,9 @@ use Rattle.model.specs.declared.Queue.{Queue}
 use Rattle.model.specs.declared.LastReceived.{LastReceived}
 use Rattle.model.specs.declared.LastReceived.the-variants as LastReceived
 use Rattle.model.specs.Lists.{some?}
-use Rattle.model.specs.Records.{Entry, Gap, Remembered, State, entryNumbers, highestOf, returnedOf}
-use Rattle.model.specs.Rules.{extended, is, Place, placeOf, waits, instantOf, sampledAt, MAX-GAP-SIZE}
+use Rattle.rtp.specs.Opt.{numberOf}
+use Rattle.model.specs.Records.{Entry, Gap, Remembered, State, entryNumbers, highestOf}
+use Rattle.model.specs.Rules.{extended, is, Place, placeOf, waits, instantOf, sampledAt, overfull, MAX-GAP-SIZE}
 use Rattle.model.specs.Push as P
 use Rattle.model.specs.Push.{passed, insertSorted, extendedNumber, mediaEntry, heard, lastAfter, afterQueued, afterDropped, frontOut, afterMedia, repairEntry, repairFate, afterFate, afterRepair}
 use Rattle.model.specs.Poll as Q
@@ -81,12 +82,12 @@ module _ (s : State) (b : Book) (e : highestOf (s .queue .last) ≡ B.highest (b
   same-frontOut [] = same-beside
   same-frontOut (x ∷ es) = record { config = refl; entries = refl; gaps = refl; highest = e; estimate = refl; remembered = refl }
 
-same-withinDepth : {c : Config} {s : State} {b : Book} → Same c s b → Same c (P.withinDepth s) (B.withinDepth (c .settings .«max_entries») b)
-unfolding P.withinDepth B.withinDepth P.overfull B.overfull
+same-withinDepth : {c : Config} {s : State} {b : Book} → Same c s b → Same c (P.withinDepth s) (B.withinDepth (c .settings) b)
+unfolding P.withinDepth B.withinDepth
 same-withinDepth {c} {s} {b} same =
-    by-same (λ (c : Config) (b : Book). Same c (P.withinDepth s) (B.withinDepth (c .settings .«max_entries») b)) same
+    by-same (λ (c : Config) (b : Book). Same c (P.withinDepth s) (B.withinDepth (c .settings) b)) same
     (rw length-map
-    (by-cases₂ (Same (s .queue .config)) (ltb (s .queue .config .settings .«max_entries») (length (s .entries))) (λ t. same-frontOut s b (same .highest) (s .entries))
+    (by-cases₂ (Same (s .queue .config)) (overfull (s .queue .config .settings) (length (s .entries))) (λ t. same-frontOut s b (same .highest) (s .entries))
     (λ t. same-beside s b (same .highest))))
 
 -- ---- a media packet
@@ -170,7 +171,7 @@ module _ (now : ℕ) (s : State) (b : Book) (e : highestOf (s .queue .last) ≡ 
   mode = s .queue .config .settings .mode
 
   abbrev returned : Opt
-  returned = returnedOf (s .queue .returned)
+  returned = numberOf (s .queue .returned)
 
   same-repair : Past mode returned out (s .remembered) → (x : Entry) → Same (s .queue .config) (afterFate now x (repairFate s (x .number)) s) (onRepair now (x .number) (beside s b))
   unfolding afterFate repairFate onRepair recover notMissing instantOf sampledAt Rtx.recordInTime Rtx.recordRedundant Rtx.recordTooLate
@@ -207,14 +208,14 @@ module _ (s : State) (b : Book) (e : highestOf (s .queue .last) ≡ B.highest (b
       (rw (same-place s f (x .number))
       (same-onMedia now x (placeOf (highestOf (s .queue .last)) (s .gaps) (x .number)) s b e (highest-after now (x .timestamp) (x .number) (s .queue .last) (b .span) (s .gaps) e)))
 
-  same-afterRepair : (now : ℕ) (d out : List ℕ) → Past (s .queue .config .settings .mode) (returnedOf (s .queue .returned)) out (s .remembered)
+  same-afterRepair : (now : ℕ) (d out : List ℕ) → Past (s .queue .config .settings .mode) (numberOf (s .queue .returned)) out (s .remembered)
       → Same (s .queue .config) (afterRepair now d s) (enter (s .queue .config) (repair now d) (accepted false) (beside s b))
   unfolding afterRepair repairEntry extendedNumber enter B.read
   same-afterRepair now d out p =
       subst (λ (o : Opt). Same (s .queue .config) (afterRepair now d s) (onRepair now (extended 16 o (originalNumber (payloadOf d))) (beside s b))) e
       (same-repair now s b e f out p (repairEntry d (s .queue)))
 
-  same-beside-taken : (k : Call) (out : List ℕ) → Past (s .queue .config .settings .mode) (returnedOf (s .queue .returned)) out (s .remembered)
+  same-beside-taken : (k : Call) (out : List ℕ) → Past (s .queue .config .settings .mode) (numberOf (s .queue .returned)) out (s .remembered)
       → Same (s .queue .config) (taken k s) (enter (s .queue .config) k (hear (answered k s)) (beside s b))
   unfolding taken answered hear enter afterPoll afterPollNack onPoll
   same-beside-taken (media now d) out p = rw hear-media (same-media now d)
@@ -226,9 +227,9 @@ module _ (s : State) (b : Book) (e : highestOf (s .queue .last) ≡ B.highest (b
   same-beside-taken rtxStats out p = same-beside s b e
   same-beside-taken highestReceived out p = same-beside s b e
 
-pub same-taken : (k : Call) {c : Config} {s : State} {b : Book} → Same c s b → ListsOf s → Past (c .settings .mode) (returnedOf (s .queue .returned)) (b .handed) (s .remembered)
+pub same-taken : (k : Call) {c : Config} {s : State} {b : Book} → Same c s b → ListsOf s → Past (c .settings .mode) (numberOf (s .queue .returned)) (b .handed) (s .remembered)
     → Same c (taken k s) (enter c k (hear (answered k s)) b)
 same-taken k {c} {s} {b} same f =
     by-same
-    (λ (c : Config) (b : Book). Past (c .settings .mode) (returnedOf (s .queue .returned)) (b .handed) (s .remembered) → Same c (taken k s) (enter c k (hear (answered k s)) b))
+    (λ (c : Config) (b : Book). Past (c .settings .mode) (numberOf (s .queue .returned)) (b .handed) (s .remembered) → Same c (taken k s) (enter c k (hear (answered k s)) b))
     same (λ p. same-beside-taken s b (same .highest) f k (b .handed) p)

@@ -6,15 +6,17 @@ use mathlib.Core.List.{List, [], _∷_, _++_, map}
 use Prim.Native.Nat.{ℕ, suc, _+_, _-_, _≤_, _<_}
 use native.Mathlib.Omega.{arith}
 use lib.Dec.{T, ltb, leb, ltb→lt}
+use lib.ListN.{length}
 use Rattle.rtp_packet.specs.Header.{sequenceNumber, payloadOf}
 use Rattle.rtp_packet.specs.Original.{originalNumber}
 use Rattle.model.specs.declared.Config.{Config}
+use Rattle.config.specs.declared.Settings.{Settings}
 use Rattle.model.specs.Lists.{following, some?}
 use Rattle.model.specs.Records.{gapNumbers}
-use Rattle.model.specs.Rules.{is, gapsBelow, Place, first, near, far, fills, placeOf, waits, between, fresh, gapsAfter, MAX-GAP-SIZE, givenUp, lostBelow}
+use Rattle.model.specs.Rules.{is, gapsBelow, Place, first, near, far, fills, placeOf, waits, between, fresh, gapsAfter, MAX-GAP-SIZE, overfull, givenUp, lostBelow}
 use Rattle.model.specs.Calls.{Call, media, repair, poll, pollNack, timeoutReceive, timeoutNack, rtxStats, highestReceived}
 use Rattle.model.proofs.Lists.{by-cases}
-use Rattle.book.specs.Book.{Heard, refused, accepted, Span, none, fromTo, highest, Book, empty, spanAfter, forgottenBy, arrive, pushOut, overfull, withinDepth, onMedia, recover, notMissing, onRepair, giveUp, takeLowest, onPoll, nackAll, read, enter, allOf, expected}
+use Rattle.book.specs.Book.{Heard, refused, accepted, Span, none, fromTo, highest, Book, empty, spanAfter, forgottenBy, arrive, pushOut, withinDepth, onMedia, recover, notMissing, onRepair, giveUp, takeLowest, onPoll, nackAll, read, enter, allOf, expected}
 use Rattle.book.proofs.Count.{same, count, count-append, count-putIn, count-one, count-cons, count-nil, following-append, count-following-le}
 use Rattle.book.proofs.Gaps.{numbers-append, numbers-fresh, numbers-nackDue, count-below, count-given-up, count-lost-below, some-counted, count-without}
 
@@ -140,9 +142,9 @@ tally-pushOut (w ∷ ws) b e t =
       ordered = t .ordered;
     }
 
-tally-withinDepth : (depth : ℕ) (b : Book) → Tally b → Tally (withinDepth depth b)
+tally-withinDepth : (set : Settings) (b : Book) → Tally b → Tally (withinDepth set b)
 unfolding withinDepth
-tally-withinDepth depth b t = by-cases Tally (overfull depth b) (λ u. tally-pushOut (b .waiting) b refl t) (λ u. t)
+tally-withinDepth set b t = by-cases Tally (overfull set (length (b .waiting))) (λ u. tally-pushOut (b .waiting) b refl t) (λ u. t)
 
 tally-giveUp : (c : Config) (b : Book) → Tally b → Tally (giveUp c b)
 unfolding giveUp total expected
@@ -169,18 +171,18 @@ tally-takeLowest c (w ∷ ws) b e t =
 
 tally-media : (c : Config) (now n : ℕ) (b : Book) (s : Span) → b .span ≡ s → Tally b → Tally (onMedia c now n (placeOf (highest s) (b .missing) n) b)
 unfolding onMedia placeOf highest waits
-tally-media c now n b none e t = tally-withinDepth (c .settings .«max_entries») _ (tally-first now n b t e)
+tally-media c now n b none e t = tally-withinDepth (c .settings) _ (tally-first now n b t e)
 tally-media c now n b (fromTo f h) e t =
     by-cases arrives (ltb h n)
     (λ u.
     by-cases arrives (leb (n - h) MAX-GAP-SIZE)
-    (λ v. tally-withinDepth (c .settings .«max_entries») _ (tally-near now n b t f h e (ltb→lt h n u)))
-    (λ v. tally-withinDepth (c .settings .«max_entries») _ (tally-far now n b t f h e (ltb→lt h n u))))
+    (λ v. tally-withinDepth (c .settings) _ (tally-near now n b t f h e (ltb→lt h n u)))
+    (λ v. tally-withinDepth (c .settings) _ (tally-far now n b t f h e (ltb→lt h n u))))
     (λ u.
-    by-cases arrives (some? (is n) (b .missing)) (λ v. tally-withinDepth (c .settings .«max_entries») _ (tally-fills now n b t v)) (λ v. t))
+    by-cases arrives (some? (is n) (b .missing)) (λ v. tally-withinDepth (c .settings) _ (tally-fills now n b t v)) (λ v. t))
   where
     arrives : Place → Type 0
-    arrives p = Tally (cond (waits p) (withinDepth (c .settings .«max_entries») (arrive now n p b)) b)
+    arrives p = Tally (cond (waits p) (withinDepth (c .settings) (arrive now n p b)) b)
 
 tally-repair : (now n : ℕ) (b : Book) → Tally b → Tally (onRepair now n b)
 unfolding onRepair recover notMissing total expected

@@ -4,7 +4,7 @@ use mathlib.Core.Path.{_≡_, refl, sym, ap, _∙_, subst}
 use mathlib.Core.Logic.{_↔_}
 use mathlib.Core.Bool.{Bool, true, false, cond}
 use mathlib.Core.List.{List, [], _∷_, _++_, map, foldl, append-nil}
-use Prim.Native.Nat.{ℕ, suc, _+_, _-_, _%_, _^_}
+use Prim.Native.Nat.{ℕ, suc, _+_, _-_}
 use native.Mathlib.Omega.{arith}
 use lib.Dec.{T, eqb, eqb→eq}
 use borrow.Author.Tests.{eq-eqb, eqb-true}
@@ -12,7 +12,10 @@ use lib.ListN.{length}
 use Rattle.config.specs.declared.RtpInboundQueueMode.{RtpInboundQueueMode}
 use Rattle.config.specs.declared.RtpInboundQueueMode.the-variants.{Passthrough, SortedQueue}
 use Rattle.model.specs.declared.Config.{Config}
-use Rattle.model.specs.Records.{Gap, State, newState, newQueue, gapNumbers, highestOf, returnedOf}
+use Rattle.rtp.specs.Opt.{numberOf}
+use Rattle.words.specs.Order.{ascends}
+use Rattle.rtp.specs.Numbers.{lowBits}
+use Rattle.model.specs.Records.{Gap, State, newState, newQueue, gapNumbers, highestOf}
 use Rattle.model.specs.Storage.{Storage, Stored, parse, write}
 use Rattle.model.specs.Calls.{Call, taken, answered}
 use Rattle.model.specs.Table.{sessionRefusal, refusal, openingRefusal}
@@ -20,8 +23,8 @@ use Rattle.model.specs.declared.Session.{Session}
 use Rattle.model.specs.Did as D
 use Rattle.model.specs.Did.{Done, did, turnedBack, accepted, session, opened}
 use Rattle.model.proofs.Laid.{parse-write}
-use Rattle.model.proofs.Lists.{none, by-cases}
-use Rattle.book.specs.Sorted.{putAllIn, sort, Ascending}
+use Rattle.model.proofs.Lists.{none, by-cases, ascends-of-rising}
+use Rattle.book.specs.Sorted.{putAllIn, sort}
 use Rattle.book.specs.Book as B
 use Rattle.book.specs.Book.{Span, none, fromTo, Book, empty, enter, allOf, expected, accounted}
 use Rattle.book.specs.Claim.{hear, given, Run, start, call, calls, InOrder, Holds, Step, EveryListOfCalls}
@@ -29,7 +32,6 @@ use Rattle.book.specs.Code.{Made, opening, further, EveryRun}
 use Rattle.book.proofs.Count.{count, count-append, count-putAllIn, count-sort, Sorted, sorted-putAllIn, sorted-sort, sorted-same, sorted-following, none-counted}
 use Rattle.book.proofs.Tally.{total, Tally, tally-empty, tally-enter}
 use Rattle.model.proofs.Sound.{Sound, ListsOf}
-use Rattle.book.proofs.Order.{rising-ascending}
 use Rattle.model.proofs.SoundCalls.{payloads-fit, sound-session, left-sound, did-taken, stays-sound}
 use Rattle.book.proofs.Past.{PastOf, past-none, past-ascends}
 use Rattle.book.proofs.Same.{Same, same-taken}
@@ -73,10 +75,10 @@ record Inv (c : Config) (s : State) (b : Book) (returned : List ℕ) : Type 0 wh
   tally : Tally b
   same : Same c s b
   past : PastOf (c .settings .mode) (b .handed) s
-  returned-are : returned ≡ map (λ (n : ℕ). n % 2 ^ 16) (b .handed)
+  returned-are : returned ≡ map (lowBits 16) (b .handed)
 
 inv-new : (c : Config) → Inv c (newState c) empty []
-unfolding newState newQueue empty B.highest highestOf returnedOf
+unfolding newState newQueue empty B.highest highestOf numberOf
 inv-new c =
     record {
       tally = tally-empty;
@@ -97,7 +99,7 @@ inv-taken k {c} {s} {b} {r} f i =
 in-order : (mode : RtpInboundQueueMode) (s : State) (out : List ℕ) → PastOf mode out s → InOrder mode out
 unfolding InOrder
 in-order Passthrough s out p = tt
-in-order SortedQueue s out p = past-ascends (returnedOf (s .queue .returned)) out (s .remembered) p
+in-order SortedQueue s out p = past-ascends (numberOf (s .queue .returned)) out (s .remembered) p
 
 holds : {c : Config} {x : Run} → Sound (parse (x .stored)) → Inv c (parse (x .stored)) (x .book) (x .returned) → Holds c x
 holds {c} {x} f i =
@@ -109,8 +111,8 @@ holds {c} {x} f i =
       highest-number = i .same .highest;
       returned = i .returned-are;
       in-order = in-order (c .settings .mode) (parse (x .stored)) (x .book .handed) (i .past);
-      waiting-ascends = subst Ascending (i .same .entries) (rising-ascending _ (f .lists-in .entries-rise));
-      missing-ascends = subst (λ (l : List Gap). Ascending (gapNumbers l)) (i .same .gaps) (rising-ascending _ (f .lists-in .gaps-rise));
+      waiting-ascends = subst (λ (l : List ℕ). T (ascends l)) (i .same .entries) (ascends-of-rising _ _ (f .lists-in .entries-rise));
+      missing-ascends = subst (λ (l : List Gap). T (ascends (gapNumbers l))) (i .same .gaps) (ascends-of-rising _ _ (f .lists-in .gaps-rise));
     }
 
 -- ---- calls on stored bytes

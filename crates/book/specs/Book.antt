@@ -3,7 +3,6 @@
 use mathlib.Core.Bool.{Bool, cond}
 use mathlib.Core.List.{List, [], _∷_, _++_}
 use Prim.Native.Nat.{ℕ, suc, _-_}
-use lib.Dec.{ltb}
 use lib.ListN.{length}
 use Rattle.rtp.specs.declared.opt.Opt.{Opt}
 use Rattle.rtp.specs.declared.opt.Opt.the-variants.{None, Some}
@@ -11,10 +10,11 @@ use Rattle.rtp_packet.specs.Header.{sequenceNumber, payloadOf}
 use Rattle.rtp_packet.specs.Original.{originalNumber}
 use Rattle.rtx_state.specs.declared.OptRtt.{OptRtt}
 use Rattle.rtx_state.specs.declared.OptRtt.the-variants as OptRtt
+use Rattle.config.specs.declared.Settings.{Settings}
 use Rattle.model.specs.declared.Config.{Config}
-use Rattle.model.specs.Lists.{following, keep, some?}
+use Rattle.model.specs.Lists.{following, some?}
 use Rattle.model.specs.Records.{Gap, Remembered, gapNumbers}
-use Rattle.model.specs.Rules.{extended, is, gapOf, without, gapsBelow, gapsFrom, Place, first, near, far, fills, other, placeOf, waits, between, gapsAfter, timingsIn, nackDue, onceOf, instantOf, sampledAt, isOf, forgetFirst, rememberedAfter, givenUp, notGivenUp, lostBelow, leftFrom}
+use Rattle.model.specs.Rules.{extended, is, without, gapsBelow, gapsFrom, Place, first, near, far, fills, other, placeOf, waits, between, gapsAfter, timingsIn, nackDue, gapNackedAt, lostNackedAt, sampledAt, forgetFirst, overfull, rememberedAfter, givenUp, notGivenUp, lostBelow, leftFrom}
 use Rattle.model.specs.Calls.{Call, media, repair, poll, pollNack, timeoutReceive, timeoutNack, rtxStats, highestReceived}
 use Rattle.book.specs.Sorted.{putIn}
 
@@ -109,27 +109,24 @@ pushOut (w ∷ ws) b =
     withForgotten (withMissing (withWaiting b ws) (gapsFrom w (b .missing))) (b .forgotten ++ (w ∷ gapNumbers (gapsBelow w (b .missing))))
 
 -- "over D now do"
-unfoldable pub overfull : ℕ → Book → Bool
-overfull depth b = ltb depth (length (b .waiting))
-
-unfoldable pub withinDepth : ℕ → Book → Book
-withinDepth depth b = cond (overfull depth b) (pushOut (b .waiting) b) b
+unfoldable pub withinDepth : Settings → Book → Book
+withinDepth set b = cond (overfull set (length (b .waiting))) (pushOut (b .waiting) b) b
 
 -- "any other moves no number"
 unfoldable pub onMedia : Config → ℕ → ℕ → Place → Book → Book
-onMedia c now n p b = cond (waits p) (withinDepth (c .settings .«max_entries») (arrive now n p b)) b
+onMedia c now n p b = cond (waits p) (withinDepth (c .settings) (arrive now n p b)) b
 
 -- ---- a repair
 
 -- "a missing number waits"
 unfoldable pub recover : ℕ → ℕ → Book → Book
 recover now n b =
-    withEstimate (withMissing (withWaiting b (putIn n (b .waiting))) (without n (b .missing))) (sampledAt now (onceOf (gapOf n (b .missing))) (b .estimate))
+    withEstimate (withMissing (withWaiting b (putIn n (b .waiting))) (without n (b .missing))) (sampledAt now (gapNackedAt n (b .missing)) (b .estimate))
 
 -- a remembered number gives a sample; any other does nothing
 unfoldable pub notMissing : ℕ → ℕ → Book → Book
 notMissing now n b =
-    withRemembered (withEstimate b (sampledAt now (instantOf (keep (isOf n) (b .remembered))) (b .estimate))) (forgetFirst n (b .remembered))
+    withRemembered (withEstimate b (sampledAt now (lostNackedAt n (b .remembered)) (b .estimate))) (forgetFirst n (b .remembered))
 
 unfoldable pub onRepair : ℕ → ℕ → Book → Book
 onRepair now n b = cond (some? (is n) (b .missing)) (recover now n b) (notMissing now n b)

@@ -3,22 +3,24 @@ use mathlib.Core.Path.{_≡_}
 use mathlib.Core.Logic.{_⊎_, _↔_}
 use mathlib.Core.Bool.{true, false}
 use mathlib.Core.List.{List, [], _∷_, _++_, map, foldl}
-use Prim.Native.Nat.{ℕ, _+_, _-_, _%_, _^_, _<_}
+use Prim.Native.Nat.{ℕ, _+_, _-_, _<_}
 use lib.Dec.{T}
 use lib.ListN.{length}
+use Rattle.words.specs.Order.{ascends}
+use Rattle.rtp.specs.Numbers.{lowBits}
 use Rattle.config.specs.declared.RtpInboundQueueMode.{RtpInboundQueueMode}
 use Rattle.config.specs.declared.RtpInboundQueueMode.the-variants.{Passthrough, SortedQueue}
 use Rattle.rtp_packet.specs.Header.{sequenceNumber}
 use Rattle.model.specs.declared.Config.{Config}
 use Rattle.model.specs.Records.{newState, entryNumbers, gapNumbers, highestOf}
-use Rattle.model.specs.Rules.{placeOf, waits, MAX-GAP-SIZE}
+use Rattle.model.specs.Rules.{placeOf, waits, overfull, MAX-GAP-SIZE}
 use Rattle.model.specs.Storage.{Storage, Stored, parse, write}
 use Rattle.model.specs.Calls.{Call, media, Answer, refused, queued, dropped, repaired, nothing, packet, nack, timeout, stats, highest}
 use Rattle.model.specs.Table.{openingRefusal}
 use Rattle.model.specs.Did.{did, session, opened}
-use Rattle.book.specs.Sorted.{putAllIn, sort, Ascending}
+use Rattle.book.specs.Sorted.{putAllIn, sort}
 use Rattle.book.specs.Book as B
-use Rattle.book.specs.Book.{Heard, Book, fromTo, empty, enter, read, arrive, overfull, expected, accounted}
+use Rattle.book.specs.Book.{Heard, Book, fromTo, empty, enter, read, arrive, expected, accounted}
 
 -- ---- lists of calls
 
@@ -72,7 +74,7 @@ calls c ks = foldl (call c) (start c) ks
 -- "In sorted mode numbers are handed out strictly ascending."
 unfoldable pub InOrder : RtpInboundQueueMode → List ℕ → Type 0
 InOrder Passthrough l = Unit {0}
-InOrder SortedQueue l = Ascending l
+InOrder SortedQueue l = T (ascends l)
 
 pub record Holds (c : Config) (x : Run) : Type 0 where
   -- "two lists of sequence numbers are afterwards equal exactly when no number was forgotten: all from the first accepted media packet to
@@ -85,18 +87,18 @@ pub record Holds (c : Config) (x : Run) : Type 0 where
   pub gaps : parse (x .stored) .gaps ≡ x .book .missing
   pub highest-number : highestOf (parse (x .stored) .queue .last) ≡ B.highest (x .book .span)
   -- "and `poll` returned the book's handed-out ones, in order"
-  pub returned : x .returned ≡ map (λ (n : ℕ). n % 2 ^ 16) (x .book .handed)
+  pub returned : x .returned ≡ map (lowBits 16) (x .book .handed)
   pub in-order : InOrder (c .settings .mode) (x .book .handed)
   -- the book's waiting and missing numbers ascend: the first is "the lowest"
-  pub waiting-ascends : Ascending (x .book .waiting)
-  pub missing-ascends : Ascending (gapNumbers (x .book .missing))
+  pub waiting-ascends : T (ascends (x .book .waiting))
+  pub missing-ascends : T (ascends (gapNumbers (x .book .missing)))
 
 -- "Forgetting happens only at a step over 1,000 or when an over-full queue pushes out its front": by the media number n, at instant now
 pub data Forgets (c : Config) (now n : ℕ) (b : Book) : Type 0 where
   step-over : {f h : ℕ} → b .span ≡ fromTo f h → MAX-GAP-SIZE < n - h → Forgets c now n b
   push-out :
       T (waits (placeOf (B.highest (b .span)) (b .missing) n))
-      → T (overfull (c .settings .«max_entries») (arrive now n (placeOf (B.highest (b .span)) (b .missing) n) b))
+      → T (overfull (c .settings) (length (arrive now n (placeOf (B.highest (b .span)) (b .missing) n) b .waiting)))
       → Forgets c now n b
 
 pub data ForgetsBy (c : Config) (b : Book) : Call → Type 0 where

@@ -1,7 +1,7 @@
 -- Lists of numbers: a number put in its place, a list sorted, repeats kept.
 use mathlib.Core.Bool.{cond}
 use mathlib.Core.List.{List, [], _∷_}
-use Prim.Native.Nat.{ℕ, _<_}
+use Prim.Native.Nat.{ℕ}
 use lib.Dec.{leb}
 
 -- n before the first of the list that is not below it: in an ascending list, n in its place
@@ -19,13 +19,3 @@ putAllIn (x ∷ xs) l = putIn x (putAllIn xs l)
 unfoldable pub sort : List ℕ → List ℕ
 unfolding putAllIn
 sort l = putAllIn l []
-
--- each number above the one before it
-unfoldable pub AllAbove : ℕ → List ℕ → Type 0
-AllAbove a [] = Unit {0}
-AllAbove a (x ∷ xs) = (a < x) × AllAbove x xs
-
-unfoldable pub Ascending : List ℕ → Type 0
-unfolding AllAbove
-Ascending [] = Unit {0}
-Ascending (x ∷ xs) = AllAbove x xs

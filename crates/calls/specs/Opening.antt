@@ -4,8 +4,7 @@ use mathlib.Core.Bool.{Bool, _&&_, cond}
 use Prim.Native.Nat.{ℕ, _≤_}
 use lib.Dec.{eqb, leb}
 use Rattle.refusals.specs.Refusals.{SETTINGS}
-use Rattle.config.specs.declared.RtpInboundQueueMode.{RtpInboundQueueMode}
-use Rattle.config.specs.declared.RtpInboundQueueMode.the-variants.{Passthrough, SortedQueue}
+use Rattle.config.specs.Mode.{modeOf}
 use Rattle.model.specs.declared.Config.{Config}
 use Rattle.model.specs.Storage.{Storage}
 use Rattle.model.specs.Did as Did
@@ -43,13 +42,8 @@ pub record Narrow (f : OpenFields) : Type 0 where
   pub ssrc : f .ssrc ≤ MAX32
   pub rtx-ssrc : f .«rtx_ssrc» ≤ MAX32
 
--- "0 Passthrough, 1 sorted queue with a Fixed delay"
-unfoldable pub modeOf : ℕ → RtpInboundQueueMode
-modeOf mode = cond (eqb mode 0) Passthrough SortedQueue
-
 -- "A setting that the line does not carry (`nack_window`) has the Rust's default"
 unfoldable pub configOf : OpenFields → Config
-unfolding modeOf
 configOf f =
     record {
       settings =

@@ -3,8 +3,7 @@ ghost use mathlib.Core.Path.{_≡_};
 ghost use Rattle.model.specs.Contract.{lent, left};
 ghost use Rattle.queue.specs.Answers.{openingAnswer};
 ghost use Rattle.put.specs.Text.{output};
-ghost use Rattle.calls.specs.Opening.{fits, Narrow, modeOf, configOf, openedWith, OpenAnswered};
-use config::RtpInboundQueueMode;
+ghost use Rattle.calls.specs.Opening.{fits, Narrow, configOf, openedWith, OpenAnswered};
 use config::Senders;
 use config::Settings;
 use model::Config;
@@ -40,20 +39,11 @@ fn fit(f: OpenFields) -> bool
         & (f.rtx_ssrc <= MAX32)
 }
 
-fn mode_of(n: u64) -> RtpInboundQueueMode
-    ensures { λ r. ⌜ r ≡ modeOf n ⌝ }
-{
-    if n == 0 {
-        return RtpInboundQueueMode::Passthrough;
-    }
-    RtpInboundQueueMode::SortedQueue
-}
-
 fn config_of(f: OpenFields) -> Config
     requires { ⌜ Narrow f ⌝ }
     ensures { λ r. ⌜ r ≡ configOf f ⌝ }
 {
-    let mode = mode_of(f.mode);
+    let mode = config::mode_of(f.mode);
     let settings = Settings {
         mode,
         clock_rate: f.clock_rate as u32,

@@ -1,5 +1,6 @@
 // The checks of 01's table that look at the session alone, a function for each row; 0 means that the call is not turned back.
 ghost use mathlib.Core.Path.{_≡_};
+ghost use Rattle.rtp.specs.Opt as Opt;
 ghost use Rattle.model.specs.Records as Records;
 ghost use Rattle.model.specs.Valid as Valid;
 ghost use Rattle.model.specs.Table as Table;
@@ -7,8 +8,8 @@ use durations::fits;
 use model::Config;
 use model::Counters;
 use model::LastReceived;
-use model::LastReturned;
 use model::Queue;
+use rtp::opt::OptNumber;
 
 // 8: "instant above 2^52 − 1, or before the latest accepted one".
 pub fn clock_refusal(q: Queue, now: u64) -> u64
@@ -65,12 +66,12 @@ fn last_sound(clock: u64, last: LastReceived) -> bool
     }
 }
 
-fn returned_sound(last: LastReceived, returned: LastReturned) -> bool
-    ensures { λ r. ⌜ r ≡ Valid.returnedSound (Records.highestOf last) (Records.returnedOf returned) ⌝ }
+fn returned_sound(last: LastReceived, returned: OptNumber) -> bool
+    ensures { λ r. ⌜ r ≡ Valid.returnedSound (Records.highestOf last) (Opt.numberOf returned) ⌝ }
 {
     match returned {
-        LastReturned::None => true,
-        LastReturned::Some(n) => match last {
+        OptNumber::None => true,
+        OptNumber::Some(n) => match last {
             LastReceived::None => false,
             LastReceived::Some(r) => n.0 <= r.number.0,
         },

@@ -1,3 +1,4 @@
 -- The specifications of `config`.
+pub mod Mode
 pub mod Timings
 pub mod Valid

@@ -1,6 +1,7 @@
 // Settings (003) of a session, flat: the opening checks every field, whether the mode uses it or not (01, refusal 1).
 ghost use mathlib.Core.Path.{_≡_};
 ghost use Rattle.config.specs.Timings.{nackTimings, targetDelay};
+ghost use Rattle.config.specs.Mode.{modeOf};
 ghost use Rattle.config.specs.Valid.{depthValid, gapsValid, settingsValid, sendersValid};
 use rtp::Ssrc;
 use rtx_state::OptRtt;
@@ -64,6 +65,17 @@ pub struct Senders {
 pub struct NackTimings {
     pub initial: u64,
     pub resend: u64,
+}
+
+// The mode that a trace or a word at the boundary names by 0 or 1; the reader of either refuses another number.
+pub fn mode_of(number: u64) -> RtpInboundQueueMode
+    ensures { λ r. ⌜ r ≡ modeOf number ⌝ }
+{
+    if number == 0 {
+        RtpInboundQueueMode::Passthrough
+    } else {
+        RtpInboundQueueMode::SortedQueue
+    }
 }
 
 // "D outside 1 to 1,024" is refused.

@@ -3,7 +3,7 @@
 use mathlib.Core.Path.{_≡_}
 use mathlib.Core.Bool.{true, _&&_, cond}
 use mathlib.Core.List.{List, []}
-use Prim.Native.Nat.{ℕ, _*_}
+use Prim.Native.Nat.{ℕ}
 use Rattle.refusals.specs.Refusals.{SETTINGS, SESSION}
 use Rattle.jitter.specs.Interarrival.{jitterGet}
 use Rattle.config.specs.Valid.{depthValid, gapsValid}

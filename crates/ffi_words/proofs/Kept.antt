@@ -2,16 +2,17 @@
 use mathlib.Core.Path.{_≡_, refl}
 use mathlib.Core.Bool.{Bool, true, false}
 use lib.Dec.{eqb, leb}
+use Rattle.rtp.specs.declared.opt.OptNumber.{OptNumber}
+use Rattle.rtp.specs.declared.opt.OptNumber.the-variants as OptNumber
 use Rattle.rtx_state.specs.declared.OptRtt.{OptRtt}
 use Rattle.rtx_state.specs.declared.OptRtt.the-variants as OptRtt
 use Rattle.config.specs.declared.RtpInboundQueueMode.{RtpInboundQueueMode}
 use Rattle.config.specs.declared.RtpInboundQueueMode.the-variants.{Passthrough, SortedQueue}
+use Rattle.config.specs.Mode.{modeOf}
 use Rattle.model.specs.declared.LastReceived.{LastReceived}
 use Rattle.model.specs.declared.LastReceived.the-variants as LastReceived
-use Rattle.model.specs.declared.LastReturned.{LastReturned}
-use Rattle.model.specs.declared.LastReturned.the-variants as LastReturned
 use Rattle.model.specs.declared.Config.{Config}
-use Rattle.ffi_words.specs.Words.{configReadable, readable, modeOf, configOf, lastOf, returnedOf, rttOf, queueOf, sessionOf, flag, modeWord, configWords, lastWords, returnedWords, rttWords, wordsOf, Kept}
+use Rattle.ffi_words.specs.Words.{configReadable, readable, configOf, lastOf, returnedOf, rttOf, queueOf, sessionOf, flag, modeWord, configWords, lastWords, returnedWords, rttWords, wordsOf, Kept}
 
 -- ---- each part
 
@@ -30,10 +31,10 @@ unfolding lastOf lastWords
 last-kept LastReceived.None = refl
 last-kept (LastReceived.Some r) = refl
 
-returned-kept : (l : LastReturned) → returnedOf (returnedWords l) ≡ l
+returned-kept : (l : OptNumber) → returnedOf (returnedWords l) ≡ l
 unfolding returnedOf returnedWords
-returned-kept LastReturned.None = refl
-returned-kept (LastReturned.Some n) = refl
+returned-kept OptNumber.None = refl
+returned-kept (OptNumber.Some n) = refl
 
 rtt-kept : (r : OptRtt) → rttOf (rttWords r) ≡ r
 unfolding rttOf rttWords
@@ -61,10 +62,10 @@ unfolding lastWords
 last-reads LastReceived.None = refl
 last-reads (LastReceived.Some r) = refl
 
-returned-reads : (l : LastReturned) → leb (returnedWords l .has) 1 ≡ true
+returned-reads : (l : OptNumber) → leb (returnedWords l .has) 1 ≡ true
 unfolding returnedWords
-returned-reads LastReturned.None = refl
-returned-reads (LastReturned.Some n) = refl
+returned-reads OptNumber.None = refl
+returned-reads (OptNumber.Some n) = refl
 
 rtt-reads : (r : OptRtt) → leb (rttWords r .has) 1 ≡ true
 unfolding rttWords

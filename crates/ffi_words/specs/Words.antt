@@ -3,17 +3,18 @@ use mathlib.Core.Path.{_≡_}
 use mathlib.Core.Bool.{Bool, true, false, _&&_, cond}
 use Prim.Native.Nat.{ℕ}
 use lib.Dec.{eqb, leb}
+use Rattle.rtp.specs.declared.opt.OptNumber.{OptNumber}
+use Rattle.rtp.specs.declared.opt.OptNumber.the-variants as OptNumber
 use Rattle.durations.specs.Seconds.{zero64}
 use Rattle.packet_loss.specs.Loss.{zero32}
 use Rattle.rtx_state.specs.declared.OptRtt.{OptRtt}
 use Rattle.rtx_state.specs.declared.OptRtt.the-variants as OptRtt
 use Rattle.config.specs.declared.RtpInboundQueueMode.{RtpInboundQueueMode}
 use Rattle.config.specs.declared.RtpInboundQueueMode.the-variants.{Passthrough, SortedQueue}
+use Rattle.config.specs.Mode.{modeOf}
 use Rattle.model.specs.declared.Config.{Config}
 use Rattle.model.specs.declared.LastReceived.{LastReceived}
 use Rattle.model.specs.declared.LastReceived.the-variants as LastReceived
-use Rattle.model.specs.declared.LastReturned.{LastReturned}
-use Rattle.model.specs.declared.LastReturned.the-variants as LastReturned
 use Rattle.model.specs.declared.Queue.{Queue}
 use Rattle.model.specs.declared.Session.{Session}
 use Rattle.ffi_words.specs.declared.ConfigWords.{ConfigWords}
@@ -32,9 +33,6 @@ readable w = configReadable (w .config) && leb (w .«has_last») 1 && leb (w .«
 
 -- ---- what they stand for
 
-unfoldable pub modeOf : ℕ → RtpInboundQueueMode
-modeOf mode = cond (eqb mode 0) Passthrough SortedQueue
-
 unfoldable pub configOf : ConfigWords → Config
 configOf c =
     record {
@@ -46,8 +44,8 @@ configOf c =
 unfoldable pub lastOf : LastWords → LastReceived
 lastOf w = cond (eqb (w .has) 0) LastReceived.None (LastReceived.Some (record { instant = w .instant; timestamp = record { 0 = w .timestamp }; number = record { 0 = w .number } }))
 
-unfoldable pub returnedOf : ReturnedWords → LastReturned
-returnedOf w = cond (eqb (w .has) 0) LastReturned.None (LastReturned.Some (record { 0 = w .number }))
+unfoldable pub returnedOf : ReturnedWords → OptNumber
+returnedOf w = cond (eqb (w .has) 0) OptNumber.None (OptNumber.Some (record { 0 = w .number }))
 
 unfoldable pub rttOf : RttWords → OptRtt
 rttOf w = cond (eqb (w .has) 0) OptRtt.None (OptRtt.Some (record { srtt = w .srtt; variation = w .variation }))
@@ -110,9 +108,9 @@ unfoldable pub lastWords : LastReceived → LastWords
 lastWords LastReceived.None = record { has = 0; instant = 0; timestamp = 0; number = 0 }
 lastWords (LastReceived.Some r) = record { has = 1; instant = r .instant; timestamp = r .timestamp .0; number = r .number .0 }
 
-unfoldable pub returnedWords : LastReturned → ReturnedWords
-returnedWords LastReturned.None = record { has = 0; number = 0 }
-returnedWords (LastReturned.Some n) = record { has = 1; number = n .0 }
+unfoldable pub returnedWords : OptNumber → ReturnedWords
+returnedWords OptNumber.None = record { has = 0; number = 0 }
+returnedWords (OptNumber.Some n) = record { has = 1; number = n .0 }
 
 unfoldable pub rttWords : OptRtt → RttWords
 rttWords OptRtt.None = record { has = 0; srtt = 0; variation = 0 }

@@ -10,7 +10,6 @@ use jitter::Jitter;
 use model::Config;
 use model::Counters;
 use model::LastReceived;
-use model::LastReturned;
 use model::Queue;
 use model::Received;
 use model::Session;
@@ -18,6 +17,7 @@ use packet_loss::PacketLoss;
 use rtp::ExtendedRtpTimestamp;
 use rtp::ExtendedSequenceNumber;
 use rtp::Ssrc;
+use rtp::opt::OptNumber;
 use rtx_state::OptRtt;
 use rtx_state::RtxRtt;
 use rtx_state::RtxState;
@@ -107,20 +107,10 @@ pub fn readable(s: SessionWords) -> bool
     config_readable(config) & (s.has_last <= 1) & (s.has_returned <= 1) & (s.has_rtt <= 1)
 }
 
-fn mode_of(mode: u32) -> RtpInboundQueueMode
-    ensures { λ r. ⌜ r ≡ Words.modeOf mode ⌝ }
-{
-    if mode == 0 {
-        RtpInboundQueueMode::Passthrough
-    } else {
-        RtpInboundQueueMode::SortedQueue
-    }
-}
-
 pub fn config_of(c: ConfigWords) -> Config
     ensures { λ r. ⌜ r ≡ Words.configOf c ⌝ }
 {
-    let mode = mode_of(c.mode);
+    let mode = config::mode_of(c.mode as u64);
     let settings = Settings {
         mode,
         clock_rate: c.clock_rate,
@@ -156,13 +146,13 @@ fn last_of(w: LastWords) -> LastReceived
     LastReceived::Some(received)
 }
 
-fn returned_of(w: ReturnedWords) -> LastReturned
+fn returned_of(w: ReturnedWords) -> OptNumber
     ensures { λ r. ⌜ r ≡ Words.returnedOf w ⌝ }
 {
     if w.has == 0 {
-        return LastReturned::None;
+        return OptNumber::None;
     }
-    LastReturned::Some(ExtendedSequenceNumber(w.number))
+    OptNumber::Some(ExtendedSequenceNumber(w.number))
 }
 
 fn rtt_of(w: RttWords) -> OptRtt
@@ -313,8 +303,8 @@ fn returned_words(q: Queue) -> ReturnedWords
 {
     let returned = q.returned;
     match returned {
-        LastReturned::None => ReturnedWords { has: 0, number: 0 },
-        LastReturned::Some(n) => ReturnedWords {
+        OptNumber::None => ReturnedWords { has: 0, number: 0 },
+        OptNumber::Some(n) => ReturnedWords {
             has: 1,
             number: n.0,
         },

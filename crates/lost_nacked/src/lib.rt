@@ -8,7 +8,7 @@ ghost use lib.ListN.{length, take, drop};
 ghost use Rattle.words.specs.Blocks.{laid};
 ghost use Rattle.words.specs.Words.{written};
 ghost use Rattle.model.specs.Lists.{keep, leading, every?};
-ghost use Rattle.model.specs.Rules.{once, instantOf, isOf, forgetFirst, MAX-LOST-NACKED, remember, rememberedAfter};
+ghost use Rattle.model.specs.Rules.{once, lostNackedAt, forgetFirst, MAX-LOST-NACKED, remember, rememberedAfter};
 ghost use Rattle.model.specs.Storage.{REMEMBERED-WORDS, GAP-WORDS, rememberedWords, rememberedOfWords, rememberedOf, gapsOf};
 ghost use Rattle.packet_gaps.specs.Gaps.{gap};
 ghost use Rattle.lost_nacked.specs.Remembered.{RememberedIn, remembered, apart};
@@ -61,7 +61,7 @@ fn position(s: &[u64], n: usize, x: ExtendedSequenceNumber) -> usize
 // Takes the first with the number x out, if there is one; the answer is its instant.
 pub fn forget(s: &mut [u64], n: usize, x: ExtendedSequenceNumber) -> Opt
     requires { ⌜ RememberedIn (now s) n ⌝ }
-    ensures { λ r. ⌜ r ≡ instantOf (keep (isOf (x .0)) (rememberedOf (now (s .entry)) n)) ⌝ }
+    ensures { λ r. ⌜ r ≡ lostNackedAt (x .0) (rememberedOf (now (s .entry)) n) ⌝ }
     ensures { λ _. ⌜ now (s .exit) ≡ laid rememberedWords (length (now (s .entry))) (forgetFirst (x .0) (rememberedOf (now (s .entry)) n)) ⌝ }
 {
     let k = position(s, n, x);

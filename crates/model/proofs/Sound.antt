@@ -18,7 +18,8 @@ use Rattle.config.specs.declared.RtpInboundQueueMode.{RtpInboundQueueMode}
 use Rattle.config.specs.declared.RtpInboundQueueMode.the-variants.{Passthrough, SortedQueue}
 use Rattle.model.specs.declared.Counters.{Counters}
 use Rattle.model.specs.declared.Queue.{Queue}
-use Rattle.model.specs.Records.{Entry, Gap, Remembered, State, highestOf, returnedOf}
+use Rattle.rtp.specs.Opt.{numberOf}
+use Rattle.model.specs.Records.{Entry, Gap, Remembered, State, highestOf}
 use Rattle.model.specs.Rules.{MAX-LOST-NACKED}
 use Rattle.model.specs.Push.{atOrBelow, passed}
 use Rattle.model.specs.Valid.{atMost, under, byClock, lastSound, returnedSound}
@@ -167,7 +168,7 @@ pub record Fits (s : State) : Type 0 where
   pub remembered-fit : length (s .remembered) ≤ MAX-LOST-NACKED
 
 abbrev pub ListsOf : State → Type 0
-ListsOf s = ListsIn (s .queue .clock) (highestOf (s .queue .last)) (s .queue .config .settings .mode) (returnedOf (s .queue .returned)) (s .gaps) (s .entries) (s .remembered)
+ListsOf s = ListsIn (s .queue .clock) (highestOf (s .queue .last)) (s .queue .config .settings .mode) (numberOf (s .queue .returned)) (s .gaps) (s .entries) (s .remembered)
 
 -- all that it says, but for the lengths of the storage
 pub record Sound (s : State) : Type 0 where

@@ -14,7 +14,8 @@ use Rattle.jitter.proofs.Range.{new-in as new-jitter}
 use Rattle.packet_loss.proofs.Range.{new-in as new-loss}
 use Rattle.rtx_state.specs.RoundTrip.{optRttInRange}
 use Rattle.model.specs.declared.Config.{Config}
-use Rattle.model.specs.Records.{State, newQueue, newState, highestOf, returnedOf}
+use Rattle.rtp.specs.Opt.{numberOf}
+use Rattle.model.specs.Records.{State, newQueue, newState, highestOf}
 use Rattle.model.specs.Valid.{lastSound, sound}
 use Rattle.model.specs.Storage.{Stored, lengthsFit, parse, write}
 use Rattle.model.specs.Calls.{Call, media, repair, poll, pollNack, timeoutReceive, timeoutNack, rtxStats, highestReceived, taken}
@@ -32,7 +33,7 @@ use Rattle.model.proofs.SoundPoll.{poll-sound, poll-nack-sound}
 -- ---- the opening
 
 new-sound : (c : Config) → T (configValid c) → Sound (newState c)
-unfolding newState newQueue lastSound optRttInRange Returned highestOf returnedOf
+unfolding newState newQueue lastSound optRttInRange Returned highestOf numberOf
 new-sound c v =
     record {
       fits = record { entries-fit = omega arith; gaps-fit = omega arith; remembered-fit = omega arith };

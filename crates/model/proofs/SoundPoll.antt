@@ -13,7 +13,8 @@ use Rattle.durations.specs.Seconds.{largest}
 use Rattle.config.specs.declared.Settings.{Settings}
 use Rattle.config.specs.declared.RtpInboundQueueMode.{RtpInboundQueueMode}
 use Rattle.config.specs.declared.RtpInboundQueueMode.the-variants.{Passthrough, SortedQueue}
-use Rattle.model.specs.Records.{Entry, Gap, Remembered, State, returnedOf}
+use Rattle.rtp.specs.Opt.{numberOf}
+use Rattle.model.specs.Records.{Entry, Gap, Remembered, State}
 use Rattle.model.specs.Rules.{MAX-LOST-NACKED, below, gapsBelow, gapsFrom, due, nacked, nackedIfDue, tried, latest, remember, rememberedAfter, givenUp, notGivenUpIn, lostBelow, leftFrom}
 use Rattle.model.specs.Poll.{timingsOf, countLost, lose, drained, ready, handsOut, goingOut, lostUnder, handOut, afterPoll, nackAll, afterPollNack}
 use Rattle.model.specs.Table.{lostWith, pollRefusal, nacksRefusal, pollNackRefusal}
@@ -105,7 +106,7 @@ module _ (now : ℕ) (s : State) (h : Sound s) (later-now : s .queue .clock ≤ 
 
 -- the front e goes out
 out-sound : (e : Entry) (es : List Entry) (s : State) → s .entries ≡ e ∷ es → Sound s → s .queue .counters .lost + length (lostBelow (s .queue .config .settings .mode) (e .number) (s .gaps)) ≤ largest → Sound (handOut (e ∷ []) s)
-unfolding handOut lose countLost returnedOf remember
+unfolding handOut lose countLost numberOf remember
 out-sound e es s at h fits =
     let q = h .queue-in in
     let l = h .lists-in in

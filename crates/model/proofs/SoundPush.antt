@@ -1,11 +1,12 @@
 -- A media packet or a repair that is not refused leaves a sound session.
-use mathlib.Core.Path.{_≡_, refl}
+use mathlib.Core.Path.{_≡_, refl, subst}
 use mathlib.Core.Bool.{not}
 use mathlib.Core.List.{List, [], _∷_}
 use Prim.Native.Nat.{ℕ, suc, _+_, _-_, _*_, _≤_, _<_}
 use native.Mathlib.Omega.{arith}
-use lib.Dec.{T, leb, ltb, le→leb, ltb→lt, nleb→lt, nltb→le, lit<}
+use lib.Dec.{T, leb, ltb, ltb→lt, nleb→lt, nltb→le, lit<}
 use lib.ListN.{length, length-append, length-map, length-drop}
+use Rattle.rtp.specs.Opt.{numberOf}
 use Rattle.rtp.specs.declared.opt.Opt.{Opt}
 use Rattle.rtp.specs.declared.opt.Opt.the-variants.{None, Some}
 use Rattle.refusals.specs.Refusals.{GAPS-FULL, ENTRIES-FULL}
@@ -21,11 +22,11 @@ use Rattle.config.specs.declared.Settings.{Settings}
 use Rattle.config.specs.declared.RtpInboundQueueMode.{RtpInboundQueueMode}
 use Rattle.model.specs.declared.LastReceived.{LastReceived}
 use Rattle.model.specs.Lists.{some?}
-use Rattle.model.specs.Records.{Entry, Gap, Remembered, State, highestOf, returnedOf}
-use Rattle.model.specs.Rules.{MAX-GAP-SIZE, MAX-LOST-NACKED, is, below, without, gapsFrom, Place, first, near, far, fills, other, placeOf, waits, between, gapsAfter, isOf, forgetFirst}
-use Rattle.model.specs.Push.{passed, insertSorted, mediaPlace, heard, lastAfter, countDropped, countReceived, afterDropped, afterQueued, frontOut, overfull, withinDepth, mediaEntry, afterMedia, Fate, tooLate, recovered, redundant, repairFate, repairEntry, afterFate, afterRepair}
+use Rattle.model.specs.Records.{Entry, Gap, Remembered, State, highestOf}
+use Rattle.model.specs.Rules.{MAX-GAP-SIZE, MAX-LOST-NACKED, is, below, without, gapsFrom, Place, first, near, far, fills, other, placeOf, waits, between, gapsAfter, isOf, forgetFirst, overfull}
+use Rattle.model.specs.Push.{passed, insertSorted, mediaPlace, heard, lastAfter, countDropped, countReceived, afterDropped, afterQueued, frontOut, withinDepth, mediaEntry, afterMedia, Fate, tooLate, recovered, redundant, repairFate, repairEntry, afterFate, afterRepair}
 use Rattle.model.specs.Storage.{entryPlaces}
-use Rattle.model.specs.Table.{atDepth, mediaValues, tooManyGaps, packetRefusal, mediaRefusal, originalNumberRefusal, fateValues, noPlace, fateRefusal, repairRefusal}
+use Rattle.model.specs.Table.{mediaValues, tooManyGaps, packetRefusal, mediaRefusal, originalNumberRefusal, fateValues, noPlace, fateRefusal, repairRefusal}
 use Rattle.model.proofs.Lists.{by-cases, by-nand, arm-yes, arm-no, Each, none, more, each-first, each-rest, each-keep, empty, rising-keep, length-keep, length-following, length-insert}
 use Rattle.model.proofs.Sound.{Reached, Ahead, ahead-of, By, EntryIn, ListsIn, QueueIn, ListsOf, Sound}
 use Rattle.model.proofs.SoundLists.{reached-gap, later, fewer, remembering, out, fill, come, step, from-ahead}
@@ -48,7 +49,7 @@ stands (Some h) gaps n =
     (λ lt. by-cases (Stands (Some h) gaps n) (leb (n - h) MAX-GAP-SIZE) (λ y. is-near refl (ltb→lt h n lt)) (λ z. is-far refl (ltb→lt h n lt)))
     (λ ge. by-cases (Stands (Some h) gaps n) (some? (is n) gaps) (λ t. is-gap t) (λ z. is-other))
 
-pub waiting-stands : (s : State) (n : ℕ) → T (waits (mediaPlace s n)) → Ahead (s .queue .config .settings .mode) (returnedOf (s .queue .returned)) n × Stands (highestOf (s .queue .last)) (s .gaps) n (mediaPlace s n)
+pub waiting-stands : (s : State) (n : ℕ) → T (waits (mediaPlace s n)) → Ahead (s .queue .config .settings .mode) (numberOf (s .queue .returned)) n × Stands (highestOf (s .queue .last)) (s .gaps) n (mediaPlace s n)
 unfolding mediaPlace waits
 waiting-stands s n =
     by-cases P (passed mode returned n) (λ y w. absurd w) (λ z w. (ahead-of mode returned n z, stands (highestOf (s .queue .last)) (s .gaps) n))
@@ -57,7 +58,7 @@ waiting-stands s n =
     mode = s .queue .config .settings .mode
 
     returned : Opt
-    returned = returnedOf (s .queue .returned)
+    returned = numberOf (s .queue .returned)
 
     P : Place → Type 0
     P p = T (waits p) → Ahead mode returned n × Stands (highestOf (s .queue .last)) (s .gaps) n p
@@ -98,8 +99,8 @@ gaps-after-fit now set is-other fit t = fit
 -- ---- the depth
 
 module _ (s : State) (q : QueueIn (s .queue)) (l : ListsOf s) (entries-fit : length (s .entries) ≤ suc (2 * s .queue .config .settings .«max_entries»)) (gaps-fit : length (s .gaps) ≤ s .queue .config .settings .«max_gaps») (remembered-fit : length (s .remembered) ≤ MAX-LOST-NACKED) where
-  front-out : (es : List Entry) → s .entries ≡ es → T (overfull s) → s .queue .counters .dropped + 1 ≤ largest → Sound (frontOut es s)
-  unfolding frontOut overfull countDropped gapsFrom returnedOf
+  front-out : (es : List Entry) → s .entries ≡ es → T (overfull (s .queue .config .settings) (length (s .entries))) → s .queue .counters .dropped + 1 ≤ largest → Sound (frontOut es s)
+  unfolding frontOut countDropped gapsFrom numberOf
   front-out [] e t d = let all : length (s .entries) ≡ 0 = rw e refl in absurd (omega (arith, ltb→lt (s .queue .config .settings .«max_entries») (length (s .entries)) t))
   front-out (x ∷ xs) e t d =
       let all : length (s .entries) ≡ suc (length xs) = rw e refl in
@@ -111,20 +112,18 @@ module _ (s : State) (q : QueueIn (s .queue)) (l : ListsOf s) (entries-fit : len
             (from-ahead (s .queue .config .settings .mode) (x .number) (s .gaps) (each-first (rw e at (l .apart))));
       }
 
-  depth : (T (overfull s) → s .queue .counters .dropped + 1 ≤ largest) → Sound (withinDepth s)
-  unfolding withinDepth overfull
+  depth : (T (overfull (s .queue .config .settings) (length (s .entries))) → s .queue .counters .dropped + 1 ≤ largest) → Sound (withinDepth s)
+  unfolding withinDepth
   depth d =
-      by-cases Sound (overfull s) (λ t. front-out (s .entries) refl t (d t))
+      by-cases Sound (overfull (s .queue .config .settings) (length (s .entries))) (λ t. front-out (s .entries) refl t (d t))
       (λ t. record { fits = record { entries-fit = omega (arith, nltb→le (s .queue .config .settings .«max_entries») (length (s .entries)) t); gaps-fit = gaps-fit; remembered-fit = remembered-fit }; queue-in = q; lists-in = l })
 
 -- ---- a media packet
 
--- what leaves more than the depth found it full
-at-depth : (now : ℕ) (s : State) (e : Entry) (p : Place) → T (overfull (afterQueued now e p s)) → T (atDepth (s .queue .config .settings) (length (s .entries)))
-unfolding overfull afterQueued heard
-at-depth now s e p t =
-    let d = s .queue .config .settings .«max_entries» in
-    le→leb d (length (s .entries)) (omega (arith, ltb→lt d (length (insertSorted e (s .entries))) t, length-insert e (s .entries)))
+-- a queued packet leaves one entry more
+one-more : (now : ℕ) (s : State) (e : Entry) (p : Place) → let after = afterQueued now e p s in T (overfull (after .queue .config .settings) (length (after .entries))) → T (overfull (s .queue .config .settings) (suc (length (s .entries))))
+unfolding afterQueued heard
+one-more now s e p t = subst (λ (n : ℕ). T (overfull (s .queue .config .settings) n)) (length-insert e (s .entries)) t
 
 module _ (now : ℕ) (s : State) (h : Sound s) (later-now : s .queue .clock ≤ now) (now-fits : now ≤ largest) where
   dropped-sound : (ts : ℕ) → ts ≤ largest → s .queue .counters .dropped + 1 ≤ largest → Sound (afterDropped now ts s)
@@ -145,7 +144,7 @@ module _ (now : ℕ) (s : State) (h : Sound s) (later-now : s .queue .clock ≤ 
       loss-set (counters-set (last-set q (last-after now p (s .queue .last) a b (q .last-in))) (record { dropped-fits = c .dropped-fits; received-fits = r; bytes-fit = y; lost-fits = c .lost-fits }))
       (received-in (s .queue .loss) (q .loss-in))
 
-  queued-sound : (e : Entry) → let p = mediaPlace s (e .number) in T (waits p) → By now (e .arrival) → length (e .payload) ≤ LARGEST-PAYLOAD → Each (λ v. v ≤ largest) (e .timestamp ∷ e .number ∷ mediaValues (s .queue .counters) (length (e .payload)) (waits p) (atDepth (s .queue .config .settings) (length (s .entries)))) → T (not (tooManyGaps (s .queue .config .settings) (length (s .gaps)) (e .number) p)) → Sound (withinDepth (afterQueued now e p s))
+  queued-sound : (e : Entry) → let p = mediaPlace s (e .number) in T (waits p) → By now (e .arrival) → length (e .payload) ≤ LARGEST-PAYLOAD → Each (λ v. v ≤ largest) (e .timestamp ∷ e .number ∷ mediaValues (s .queue .counters) (length (e .payload)) (waits p) (overfull (s .queue .config .settings) (suc (length (s .entries))))) → T (not (tooManyGaps (s .queue .config .settings) (length (s .gaps)) (e .number) p)) → Sound (withinDepth (afterQueued now e p s))
   unfolding mediaValues afterQueued heard countReceived
   queued-sound e w by size values room =
       let p = mediaPlace s (e .number) in
@@ -157,7 +156,7 @@ module _ (now : ℕ) (s : State) (h : Sound s) (later-now : s .queue .clock ≤ 
       (omega (arith, length-insert e (s .entries), h .fits .entries-fit))
       (gaps-after-fit now (s .queue .config .settings) (st .1) (h .fits .gaps-fit) room)
       (h .fits .remembered-fit)
-      (λ t. each-first (arm-yes (Each (λ v. v ≤ largest)) (atDepth (s .queue .config .settings) (length (s .entries))) _ _ (at-depth now s e p t) (each-rest (each-rest raised))))
+      (λ t. each-first (arm-yes (Each (λ v. v ≤ largest)) (overfull (s .queue .config .settings) (suc (length (s .entries)))) _ _ (one-more now s e p t) (each-rest (each-rest raised))))
 
 pub media-sound : (now : ℕ) (d : List ℕ) (s : State) → Sound s → mediaRefusal now d s ≡ 0 → Sound (afterMedia now d s)
 unfolding mediaRefusal packetRefusal afterMedia mediaEntry mediaValues By
@@ -210,7 +209,7 @@ module _ (now : ℕ) (e : Entry) (s : State) (h : Sound s) (later-now : s .queue
         lists-in = later (h .lists-in) later-now;
       }
 
-  recovered-sound : Each (λ v. v ≤ largest) (fateValues (s .queue .rtx) (length (e .payload)) recovered) → T (not (noPlace (entryPlaces (s .queue .config .settings)) (length (s .entries)) recovered)) → EntryIn now (highestOf (s .queue .last)) (s .queue .config .settings .mode) (returnedOf (s .queue .returned)) e → T (some? (is (e .number)) (s .gaps)) → Sound (afterFate now e recovered s)
+  recovered-sound : Each (λ v. v ≤ largest) (fateValues (s .queue .rtx) (length (e .payload)) recovered) → T (not (noPlace (entryPlaces (s .queue .config .settings)) (length (s .entries)) recovered)) → EntryIn now (highestOf (s .queue .last)) (s .queue .config .settings .mode) (numberOf (s .queue .returned)) e → T (some? (is (e .number)) (s .gaps)) → Sound (afterFate now e recovered s)
   unfolding afterFate fateValues recordInTime noPlace without
   recovered-sound values room k t =
       let raised = each-first values in
@@ -242,7 +241,7 @@ module _ (now : ℕ) (e : Entry) (s : State) (h : Sound s) (later-now : s .queue
       mode = s .queue .config .settings .mode
 
       returned : Opt
-      returned = returnedOf (s .queue .returned)
+      returned = numberOf (s .queue .returned)
 
       P : Fate → Type 0
       P f = Each (λ v. v ≤ largest) (fateValues (s .queue .rtx) (length (e .payload)) f) → T (not (noPlace (entryPlaces (s .queue .config .settings)) (length (s .entries)) f)) → Sound (afterFate now e f s)

@@ -20,7 +20,8 @@ use Rattle.model.specs.declared.Config.{Config}
 use Rattle.model.specs.declared.Counters.{Counters}
 use Rattle.model.specs.declared.Queue.{Queue}
 use Rattle.model.specs.Lists.{some?, every?}
-use Rattle.model.specs.Records.{Entry, Gap, Remembered, State, entryNumbers, gapNumbers, highestOf, returnedOf}
+use Rattle.rtp.specs.Opt.{numberOf}
+use Rattle.model.specs.Records.{Entry, Gap, Remembered, State, entryNumbers, gapNumbers, highestOf}
 use Rattle.model.specs.Rules.{is, MAX-LOST-NACKED}
 use Rattle.model.specs.Valid.{Bounds, boundsOf, atMost, under, notPassed, byClock, gapSound, gapsSound, fieldsSound, entrySound, entriesSound, rememberedSound, listsSound, lastSound, returnedSound, countersSound, queueSound, countsFit, sound}
 use Rattle.model.specs.Push.{passed}
@@ -116,7 +117,7 @@ module _ (q : Queue) where
   mode = q .config .settings .mode
 
   abbrev returned : Opt
-  returned = returnedOf (q .returned)
+  returned = numberOf (q .returned)
 
   abbrev gapTests : Gap → List Bool
   gapTests g = notPassed (boundsOf q .passed) (g .number) ∷ leb (g .detected) (q .clock) ∷ leb (g .nackedAt) (q .clock) ∷ []

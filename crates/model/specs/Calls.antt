@@ -1,9 +1,10 @@
 -- The eight calls at the head of 01, what each answers and what it leaves. The opening is in Did.
 use mathlib.Core.Bool.{Bool, cond}
 use mathlib.Core.List.{List, [], _∷_}
-use Prim.Native.Nat.{ℕ, zero, suc, _%_, _^_}
+use Prim.Native.Nat.{ℕ, zero, suc}
 use lib.ListN.{length}
 use Rattle.words.specs.Words.{over}
+use Rattle.rtp.specs.Numbers.{lowBits}
 use Rattle.rtp.specs.declared.opt.Opt.{Opt}
 use Rattle.stats.specs.declared.OptRtxStats.{OptRtxStats}
 use Rattle.config.specs.declared.RtpInboundQueueMode.{RtpInboundQueueMode}
@@ -70,7 +71,7 @@ delayIn SortedQueue set = targetDelay set
 
 unfoldable pub packetOf : Queue → Entry → Packet
 packetOf q e =
-    record { pt = q .config .senders .pt; number = e .number % 2 ^ 16; timestamp = e .timestamp % 2 ^ 32; ssrc = q .config .senders .ssrc .0; marker = e .marker; arrival = e .arrival; delay = delayIn (q .config .settings .mode) (q .config .settings); size = length (e .payload) }
+    record { pt = q .config .senders .pt; number = lowBits 16 (e .number); timestamp = lowBits 32 (e .timestamp); ssrc = q .config .senders .ssrc .0; marker = e .marker; arrival = e .arrival; delay = delayIn (q .config .settings .mode) (q .config .settings); size = length (e .payload) }
 
 unfoldable pub handed : Queue → List Entry → Answer
 handed q [] = nothing

@@ -3,14 +3,15 @@
 use mathlib.Core.Bool.{Bool, false, cond}
 use mathlib.Core.List.{List, [], _∷_}
 use Prim.Native.Nat.{ℕ, _+_}
-use lib.Dec.{leb, ltb}
+use lib.Dec.{leb}
 use lib.ListN.{length}
+use Rattle.rtp.specs.Opt.{numberOf}
 use Rattle.rtp.specs.declared.opt.Opt.{Opt}
 use Rattle.rtp.specs.declared.opt.Opt.the-variants.{None, Some}
 use Rattle.rtp_packet.specs.Header.{sequenceNumber, timestamp, marker, payloadOf}
 use Rattle.rtp_packet.specs.Original.{originalNumber, originalPayload}
 use Rattle.rtx_state.specs.declared.RtxState.{RtxState}
-use Rattle.rtx_state.specs.Repair.{recordInTime, recordRedundant, recordTooLate}
+use Rattle.rtx_state.specs.Repair.{withRtt, recordInTime, recordRedundant, recordTooLate}
 use Rattle.jitter.specs.declared.Jitter.{Jitter}
 use Rattle.jitter.specs.Interarrival.{jitterUpdated}
 use Rattle.packet_loss.specs.Loss.{recordReceived, recordLost}
@@ -20,9 +21,9 @@ use Rattle.model.specs.declared.LastReceived.{LastReceived}
 use Rattle.model.specs.declared.LastReceived.the-variants as LastReceived
 use Rattle.model.specs.declared.Counters.{Counters}
 use Rattle.model.specs.declared.Queue.{Queue}
-use Rattle.model.specs.Lists.{keep, some?}
-use Rattle.model.specs.Records.{Entry, State, highestOf, lastTimestampOf, returnedOf, withClock, withLast, withReturned, withRtx, withCounters, withJitter, withLoss, Gap}
-use Rattle.model.specs.Rules.{extended, is, gapOf, without, gapsFrom, Place, first, near, far, fills, other, placeOf, waits, gapsAfter, onceOf, instantOf, sampledAt, isOf, forgetFirst}
+use Rattle.model.specs.Lists.{some?}
+use Rattle.model.specs.Records.{Entry, State, highestOf, lastTimestampOf, withClock, withLast, withReturned, withRtx, withCounters, withJitter, withLoss, Gap}
+use Rattle.model.specs.Rules.{extended, is, without, gapsFrom, Place, first, near, far, fills, other, placeOf, waits, gapsAfter, gapNackedAt, lostNackedAt, sampledAt, forgetFirst, overfull}
 
 -- ---- what both share
 
@@ -61,7 +62,7 @@ insertSorted e (x ∷ xs) = cond (leb (e .number) (x .number)) (e ∷ x ∷ xs) 
 
 -- where the packet stands, with these gaps open
 unfoldable pub placeIn : Queue → List Gap → ℕ → Place
-placeIn q gaps n = cond (passed (q .config .settings .mode) (returnedOf (q .returned)) n) other (placeOf (highestOf (q .last)) gaps n)
+placeIn q gaps n = cond (passed (q .config .settings .mode) (numberOf (q .returned)) n) other (placeOf (highestOf (q .last)) gaps n)
 
 unfoldable pub mediaPlace : State → ℕ → Place
 unfolding placeIn
@@ -120,12 +121,9 @@ unfoldable pub frontOut : List Entry → State → State
 frontOut [] s = s
 frontOut (e ∷ es) s = record { queue = queuePushedOut (e .number) (s .queue); entries = es; gaps = gapsFrom (e .number) (s .gaps); remembered = s .remembered }
 
-unfoldable pub overfull : State → Bool
-overfull s = ltb (s .queue .config .settings .«max_entries») (length (s .entries))
-
 -- "After a push that leaves more than D"
 unfoldable pub withinDepth : State → State
-withinDepth s = cond (overfull s) (frontOut (s .entries) s) s
+withinDepth s = cond (overfull (s .queue .config .settings) (length (s .entries))) (frontOut (s .entries) s) s
 
 unfoldable pub mediaEntry : ℕ → List ℕ → Queue → Entry
 unfolding extendedEntry
@@ -145,7 +143,7 @@ pub data Fate : Type 0 where
   tooLate recovered redundant : Fate
 
 unfoldable pub fateIn : Queue → List Gap → ℕ → Fate
-fateIn q gaps n = cond (passed (q .config .settings .mode) (returnedOf (q .returned)) n) tooLate (cond (some? (is n) gaps) recovered redundant)
+fateIn q gaps n = cond (passed (q .config .settings .mode) (numberOf (q .returned)) n) tooLate (cond (some? (is n) gaps) recovered redundant)
 
 unfoldable pub repairFate : State → ℕ → Fate
 unfolding fateIn
@@ -158,8 +156,7 @@ repairEntry d q = extendedEntry q None (timestamp d) (originalNumber (payloadOf 
 
 -- the repair state with the sample that the repair of a number yields
 abbrev pub sampled : ℕ → Opt → RtxState → RtxState
-sampled now instant r =
-    record { rtt = sampledAt now instant (r .rtt); «received_in_time» = r .«received_in_time»; «received_too_late» = r .«received_too_late»; «received_redundant» = r .«received_redundant»; «bytes_received» = r .«bytes_received» }
+sampled now instant r = withRtt r (sampledAt now instant (r .rtt))
 
 -- what a repair makes of the queue's own record; `nacked` is the instant of the number's NACK, if there was just one
 abbrev pub queueTooLate : ℕ → Opt → Queue → Queue
@@ -174,7 +171,7 @@ queueRecovered now nacked size q = withLoss (withRtx (withClock q now) (sampled 
 unfoldable pub afterFate : ℕ → Entry → Fate → State → State
 afterFate now e tooLate s =
     record {
-      queue = queueTooLate now (instantOf (keep (isOf (e .number)) (s .remembered))) (s .queue);
+      queue = queueTooLate now (lostNackedAt (e .number) (s .remembered)) (s .queue);
       entries = s .entries;
       gaps = s .gaps;
       remembered = forgetFirst (e .number) (s .remembered);
@@ -182,7 +179,7 @@ afterFate now e tooLate s =
 afterFate now e redundant s = record { queue = queueRedundant now (s .queue); entries = s .entries; gaps = s .gaps; remembered = s .remembered }
 afterFate now e recovered s =
     record {
-      queue = queueRecovered now (onceOf (gapOf (e .number) (s .gaps))) (length (e .payload)) (s .queue);
+      queue = queueRecovered now (gapNackedAt (e .number) (s .gaps)) (length (e .payload)) (s .queue);
       entries = insertSorted e (s .entries);
       gaps = without (e .number) (s .gaps);
       remembered = s .remembered;

@@ -4,6 +4,7 @@ use mathlib.Core.List.{List, [], map}
 use Prim.Native.Nat.{ℕ}
 use Rattle.rtp.specs.declared.opt.Opt.{Opt}
 use Rattle.rtp.specs.declared.opt.Opt.the-variants as Opt
+use Rattle.rtp.specs.declared.opt.OptNumber.the-variants as OptNumber
 use Rattle.rtx_state.specs.declared.RtxState.{RtxState}
 use Rattle.rtx_state.specs.Repair.{newRtxState}
 use Rattle.jitter.specs.declared.Jitter.{Jitter}
@@ -13,8 +14,6 @@ use Rattle.packet_loss.specs.Loss.{newLoss}
 use Rattle.model.specs.declared.Config.{Config}
 use Rattle.model.specs.declared.LastReceived.{LastReceived}
 use Rattle.model.specs.declared.LastReceived.the-variants as LastReceived
-use Rattle.model.specs.declared.LastReturned.{LastReturned}
-use Rattle.model.specs.declared.LastReturned.the-variants as LastReturned
 use Rattle.model.specs.declared.Counters.{Counters}
 use Rattle.model.specs.declared.Queue.{Queue}
 
@@ -64,15 +63,11 @@ unfoldable pub lastTimestampOf : LastReceived → Opt
 lastTimestampOf LastReceived.None = Opt.None
 lastTimestampOf (LastReceived.Some r) = Opt.Some (r .timestamp .0)
 
-unfoldable pub returnedOf : LastReturned → Opt
-returnedOf LastReturned.None = Opt.None
-returnedOf (LastReturned.Some n) = Opt.Some (n .0)
-
 -- ---- a newly opened session
 
 unfoldable pub newQueue : Config → Queue
 newQueue c =
-    record { config = c; clock = 0; last = LastReceived.None; returned = LastReturned.None; rtx = newRtxState; counters = record { dropped = 0; received = 0; bytes = 0; lost = 0 }; jitter = newJitter (c .settings .«clock_rate»); loss = newLoss }
+    record { config = c; clock = 0; last = LastReceived.None; returned = OptNumber.None; rtx = newRtxState; counters = record { dropped = 0; received = 0; bytes = 0; lost = 0 }; jitter = newJitter (c .settings .«clock_rate»); loss = newLoss }
 
 unfoldable pub newState : Config → State
 unfolding newQueue
@@ -89,7 +84,7 @@ module _ (q : Queue) where
 
   abbrev pub withReturned : ℕ → Queue
   withReturned n =
-      record { config = q .config; clock = q .clock; last = q .last; returned = LastReturned.Some (record { 0 = n }); rtx = q .rtx; counters = q .counters; jitter = q .jitter; loss = q .loss }
+      record { config = q .config; clock = q .clock; last = q .last; returned = OptNumber.Some (record { 0 = n }); rtx = q .rtx; counters = q .counters; jitter = q .jitter; loss = q .loss }
 
   abbrev pub withRtx : RtxState → Queue
   withRtx r = record { config = q .config; clock = q .clock; last = q .last; returned = q .returned; rtx = r; counters = q .counters; jitter = q .jitter; loss = q .loss }

@@ -1,10 +1,10 @@
 -- 01, "Numbers", "Gap", "Repair state" and "Hand-out": the rules that the queue and the book share. None of them looks at a session.
 use mathlib.Core.Bool.{Bool, true, false, cond, not}
 use mathlib.Core.List.{List, [], _∷_, _++_, map}
-use Prim.Native.Nat.{ℕ, suc, _+_, _-_, _*_, _%_, _^_}
+use Prim.Native.Nat.{ℕ, suc, _+_, _-_, _*_, _^_}
 use lib.Dec.{leb, ltb, eqb}
 use lib.ListN.{length, drop}
-use Rattle.rtp.specs.Numbers.{guessed}
+use Rattle.rtp.specs.Numbers.{lowBits, guessed}
 use Rattle.rtp.specs.declared.opt.Opt.{Opt}
 use Rattle.rtp.specs.declared.opt.Opt.the-variants.{None, Some}
 use Rattle.rtx_state.specs.declared.OptRtt.{OptRtt}
@@ -124,7 +124,7 @@ nackDue t now l = map (nackedIfDue t now) l
 
 -- the 16 bits that a NACK gives
 abbrev pub truncated : Gap → ℕ
-truncated g = g .number % 2 ^ 16
+truncated g = lowBits 16 (g .number)
 
 -- no further NACK can be counted
 abbrev pub full : Gap → Bool
@@ -148,19 +148,26 @@ unfoldable pub onceOf : List Gap → Opt
 onceOf [] = None
 onceOf (g ∷ gs) = nackedOnce g
 
--- the instant of the NACK of a number that is remembered
+-- the same of a number, if it is missing
+abbrev pub gapNackedAt : ℕ → List Gap → Opt
+gapNackedAt n l = onceOf (gapOf n l)
+
+unfoldable pub isOf : ℕ → Remembered → Bool
+isOf n r = eqb (r .number) n
+
 unfoldable pub instantOf : List Remembered → Opt
 instantOf [] = None
 instantOf (r ∷ rs) = Some (r .nackedAt)
+
+-- the instant of the NACK of a number, if it is remembered
+abbrev pub lostNackedAt : ℕ → List Remembered → Opt
+lostNackedAt n l = instantOf (keep (isOf n) l)
 
 -- "A gap NACKed just once yields a sample when its repair comes, also too late if the number is still remembered": the estimate after a
 -- repair of a number that was NACKed at this instant, if one is told
 unfoldable pub sampledAt : ℕ → Opt → OptRtt → OptRtt
 sampledAt now None rtt = rtt
 sampledAt now (Some instant) rtt = sampledRtt rtt (now - instant)
-
-unfoldable pub isOf : ℕ → Remembered → Bool
-isOf n r = eqb (r .number) n
 
 -- a number that gave its sample is no longer remembered
 unfoldable pub forgetFirst : ℕ → List Remembered → List Remembered
@@ -182,6 +189,12 @@ unfoldable pub rememberedAfter : Bool → List Gap → List Remembered → List 
 unfolding latest
 rememberedAfter false lost l = l
 rememberedAfter true lost l = latest (l ++ map remember (keep once lost))
+
+-- ---- the depth
+
+-- "more than D": so many entries of the queue, so many waiting numbers of the book
+abbrev pub overfull : Settings → ℕ → Bool
+overfull set n = ltb (set .«max_entries») n
 
 -- ---- numbers lost
 

@@ -1,7 +1,7 @@
 -- 01, "Where a call is turned back": the number of the first check that catches a call, or 0. "Checks run downwards within a call."
 use mathlib.Core.Bool.{Bool, true, false, cond, _&&_, _||_, not}
 use mathlib.Core.List.{List, [], _∷_, _++_}
-use Prim.Native.Nat.{ℕ, _+_, _-_}
+use Prim.Native.Nat.{ℕ, suc, _+_, _-_}
 use lib.Dec.{leb, ltb}
 use lib.ListN.{length}
 use Rattle.refusals.specs.Refusals.{SETTINGS, CLOCK, NO-RTX, NO-MEDIA, GAPS-FULL, ENTRIES-FULL, COUNT, OUTPUT, SESSION, orElse}
@@ -19,7 +19,7 @@ use Rattle.model.specs.declared.Counters.{Counters}
 use Rattle.model.specs.declared.Queue.{Queue}
 use Rattle.model.specs.Lists.{some?}
 use Rattle.model.specs.Records.{Entry, Gap, State}
-use Rattle.model.specs.Rules.{Place, first, near, far, fills, other, waits, full, givenUp}
+use Rattle.model.specs.Rules.{Place, first, near, far, fills, other, waits, full, overfull, givenUp}
 use Rattle.model.specs.Push.{mediaEntry, mediaPlace, Fate, tooLate, recovered, redundant, repairEntry, repairFate}
 use Rattle.model.specs.Poll.{drained, goingOut, lostUnder, dueGaps}
 use Rattle.model.specs.Valid.{sound}
@@ -73,10 +73,6 @@ nackCountRefusal due = refuseIf (some? full due) COUNT
 
 -- ---- a media packet
 
--- "a push that leaves more than D": it finds D or more (`at-depth` of proofs/SoundPush.antt)
-abbrev pub atDepth : Settings → ℕ → Bool
-atDepth set entries = leb (set .«max_entries») entries
-
 -- 14: the counters that a packet of this size would raise
 unfoldable pub mediaValues : Counters → ℕ → Bool → Bool → List ℕ
 mediaValues c size waits pushesOut = cond waits ((c .received + 1) ∷ (c .bytes + size) ∷ cond pushesOut ((c .dropped + 1) ∷ []) []) ((c .dropped + 1) ∷ [])
@@ -93,7 +89,7 @@ tooManyGaps set gaps n other = false
 unfoldable pub packetRefusal : Queue → (entries gaps timestamp number size : ℕ) → Place → ℕ
 packetRefusal q entries gaps ts n size p =
     let set = q .config .settings in
-    orElse (countRefusal (ts ∷ n ∷ mediaValues (q .counters) size (waits p) (atDepth set entries))) (refuseIf (tooManyGaps set gaps n p) GAPS-FULL)
+    orElse (countRefusal (ts ∷ n ∷ mediaValues (q .counters) size (waits p) (overfull set (suc entries)))) (refuseIf (tooManyGaps set gaps n p) GAPS-FULL)
 
 -- the same of an entry at its place
 abbrev pub refusalAt : Entry → Place → State → ℕ

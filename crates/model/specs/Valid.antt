@@ -18,7 +18,8 @@ use Rattle.model.specs.declared.LastReceived.the-variants as LastReceive
 use Rattle.model.specs.declared.Counters.{Counters}
 use Rattle.model.specs.declared.Queue.{Queue}
 use Rattle.model.specs.Lists.{some?, every?}
-use Rattle.model.specs.Records.{Entry, Gap, Remembered, State, entryNumbers, gapNumbers, highestOf, returnedOf}
+use Rattle.rtp.specs.Opt.{numberOf}
+use Rattle.model.specs.Records.{Entry, Gap, Remembered, State, entryNumbers, gapNumbers, highestOf}
 use Rattle.model.specs.Rules.{is, MAX-LOST-NACKED}
 use Rattle.model.specs.Push.{atOrBelow, passedOf}
 use Rattle.model.specs.Storage.{entryPlaces}
@@ -33,7 +34,7 @@ pub record Bounds : Type 0 where
 
 unfoldable pub boundsOf : Queue → Bounds
 unfolding passedOf
-boundsOf q = record { passed = passedOf (q .config .settings .mode) (returnedOf (q .returned)); highest = highestOf (q .last); clock = q .clock }
+boundsOf q = record { passed = passedOf (q .config .settings .mode) (numberOf (q .returned)); highest = highestOf (q .last); clock = q .clock }
 
 -- not "above the highest", nor "before any media packet"
 unfoldable pub atMost : Opt → ℕ → Bool
@@ -99,7 +100,7 @@ countersSound c = leb (c .dropped) largest && (leb (c .received) largest && (leb
 unfoldable pub queueSound : Queue → Bool
 queueSound q =
     lastSound (q .clock) (q .last)
-    && (returnedSound (highestOf (q .last)) (returnedOf (q .returned))
+    && (returnedSound (highestOf (q .last)) (numberOf (q .returned))
     && (countersSound (q .counters)
     && (rtxInRange (q .rtx)
     && (jitterInRange (q .config .settings .«clock_rate») (q .jitter)

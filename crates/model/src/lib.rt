@@ -8,6 +8,7 @@ use jitter::Jitter;
 use packet_loss::PacketLoss;
 use rtp::ExtendedRtpTimestamp;
 use rtp::ExtendedSequenceNumber;
+use rtp::opt::OptNumber;
 use rtx_state::RtxState;
 
 // What the opening fixes.
@@ -28,12 +29,6 @@ pub enum LastReceived {
     Some(Received),
 }
 
-// The number that `poll` returned last, or that was pushed out last.
-pub enum LastReturned {
-    None,
-    Some(ExtendedSequenceNumber),
-}
-
 pub struct Counters {
     pub dropped: u64,
     pub received: u64,
@@ -47,7 +42,8 @@ pub struct Queue {
     // The latest accepted instant, in nanoseconds.
     pub clock: u64,
     pub last: LastReceived,
-    pub returned: LastReturned,
+    // The number that `poll` returned last, or that was pushed out last.
+    pub returned: OptNumber,
     pub rtx: RtxState,
     pub counters: Counters,
     pub jitter: Jitter,

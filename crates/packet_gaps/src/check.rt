@@ -4,7 +4,7 @@ ghost use Prim.Native.Nat.{_*_, _≤_};
 ghost use lib.ListN.{length};
 ghost use Rattle.words.specs.Blocks.{laid};
 ghost use Rattle.rtp.specs.Opt.{numberOf};
-ghost use Rattle.model.specs.Records.{highestOf, returnedOf};
+ghost use Rattle.model.specs.Records.{highestOf};
 ghost use Rattle.model.specs.Push.{passedOf};
 ghost use Rattle.model.specs.Valid.{boundsOf, under, notPassed, gapSound, gapsSound};
 ghost use Rattle.model.specs.Storage.{GAP-WORDS, gapWords, gapsOf};
@@ -13,7 +13,6 @@ use super::GAP_WORDS;
 use super::Gap;
 use config::RtpInboundQueueMode;
 use model::LastReceived;
-use model::LastReturned;
 use model::Queue;
 use rtp::ExtendedSequenceNumber;
 use rtp::opt::OptNumber;
@@ -39,15 +38,12 @@ fn highest_of(last: LastReceived) -> OptNumber
     }
 }
 
-fn passed_of(mode: RtpInboundQueueMode, returned: LastReturned) -> OptNumber
-    ensures { λ r. ⌜ numberOf r ≡ passedOf mode (returnedOf returned) ⌝ }
+fn passed_of(mode: RtpInboundQueueMode, returned: OptNumber) -> OptNumber
+    ensures { λ r. ⌜ numberOf r ≡ passedOf mode (numberOf returned) ⌝ }
 {
     match mode {
         RtpInboundQueueMode::Passthrough => OptNumber::None,
-        RtpInboundQueueMode::SortedQueue => match returned {
-            LastReturned::None => OptNumber::None,
-            LastReturned::Some(n) => OptNumber::Some(n),
-        },
+        RtpInboundQueueMode::SortedQueue => returned,
     }
 }
 

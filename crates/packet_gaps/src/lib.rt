@@ -10,7 +10,7 @@ ghost use Rattle.words.specs.Blocks.{laid};
 ghost use Rattle.words.specs.Order.{ascends};
 ghost use Rattle.model.specs.Lists.{some?};
 ghost use Rattle.model.specs.Records.{gapNumbers};
-ghost use Rattle.model.specs.Rules.{is, gapOf, without, gapsBelow, between, fresh, nackedOnce, onceOf};
+ghost use Rattle.model.specs.Rules.{is, without, gapsBelow, between, fresh, nackedOnce, gapNackedAt};
 ghost use Rattle.model.specs.Storage.{GAP-WORDS, gapWords, gapOfWords, gapsOf};
 ghost use Rattle.packet_gaps.specs.Gaps.{GapsIn, gap};
 use rtp::ExtendedSequenceNumber;
@@ -83,7 +83,7 @@ pub fn remove(s: &mut [u64], n: usize, x: ExtendedSequenceNumber) -> Opt
     requires { ⌜ GapsIn (now s) n ⌝ }
     requires { ⌜ ascends (gapNumbers (gapsOf (now s) n)) ≡ true ⌝ }
     requires { ⌜ some? (is (x .0)) (gapsOf (now s) n) ≡ true ⌝ }
-    ensures { λ r. ⌜ r ≡ onceOf (gapOf (x .0) (gapsOf (now (s .entry)) n)) ⌝ }
+    ensures { λ r. ⌜ r ≡ gapNackedAt (x .0) (gapsOf (now (s .entry)) n) ⌝ }
     ensures { λ _. ⌜ now (s .exit) ≡ laid gapWords (length (now (s .entry))) (without (x .0) (gapsOf (now (s .entry)) n)) ⌝ }
 {
     let k = words::search::rank_of(s, GAP_WORDS, n, x.0);

@@ -4,10 +4,10 @@ use mathlib.Core.Bool.{Bool, true, false, not}
 use mathlib.Core.List.{List, [], _∷_}
 use Prim.Native.Nat.{ℕ, suc, _+_, _*_, _-_, _≤_, _<_}
 use native.Mathlib.Omega.{arith}
-use lib.Dec.{T, leb, ltb, lit<, nltb→le, nleb→lt}
+use lib.Dec.{T, leb, leb·suc-suc, ltb, lit<, nltb→le, nleb→lt}
 use lib.Ieee.Bits.{is-true}
 use lib.ListN.{length, drop, length-drop}
-use borrow.Author.Tests.{lt-ltb, le-ltb, le-leb}
+use borrow.Author.Tests.{lt-ltb, le-ltb}
 use Rattle.words.specs.Blocks.{laid}
 use Rattle.words.specs.Order.{ascends}
 use Rattle.rtp.specs.declared.opt.Opt.{Opt}
@@ -18,10 +18,10 @@ use Rattle.config.specs.declared.Settings.{Settings}
 use Rattle.model.specs.declared.Queue.{Queue}
 use Rattle.model.specs.declared.Session.{Session}
 use Rattle.model.specs.Records.{Entry, Gap, State, gapNumbers, highestOf}
-use Rattle.model.specs.Rules.{is, without, gapsFrom, fresh, Place, near, waits, between, gapsAfter}
-use Rattle.model.specs.Push.{insertSorted, mediaPlace, heard, countReceived, queueDropped, queueQueued, queuePushedOut, afterQueued, afterDropped, frontOut, overfull, withinDepth, afterPlaced}
+use Rattle.model.specs.Rules.{is, without, gapsFrom, fresh, Place, near, waits, between, gapsAfter, overfull}
+use Rattle.model.specs.Push.{insertSorted, mediaPlace, heard, countReceived, queueDropped, queueQueued, queuePushedOut, afterQueued, afterDropped, frontOut, withinDepth, afterPlaced}
 use Rattle.model.specs.Storage.{Stored, GAP-WORDS, entryWords, payloadBytes, gapWords, entryPlaces, entriesOf, gapsOf, entriesLaid, payloadsLaid, gapsLaid, rememberedLaid, parse, write}
-use Rattle.model.specs.Table.{atDepth, mediaValues, tooManyGaps, countRefusal, refuseIf, packetRefusal}
+use Rattle.model.specs.Table.{mediaValues, tooManyGaps, countRefusal, refuseIf, packetRefusal}
 use Rattle.model.proofs.Lists.{Each, each-first, each-rest, each-imp, each-map, each-following, by-nand, Rising, empty, rising-keep, rising-append, rising-map, rising-following, ascends-of-rising, length-keep, length-insert}
 use Rattle.model.proofs.Laid.{parse-entries, gap-wide, length-words, gapsOf-laid, length-entriesOf, length-gapsOf, length-rememberedOf}
 use Rattle.model.proofs.Sound.{Under}
@@ -66,10 +66,14 @@ rising-after now (is-far at lt) r u = empty
 rising-after {n = n} now (is-gap t) r u = rising-keep (λ (g : Gap). g .number) (λ (g : Gap). not (is n g)) r
 rising-after now is-other r u = r
 
+-- more than D with one more is D or more without it
+pub full-is : (s : Session) → overfull (s .queue .config .settings) (suc (s .entries)) ≡ leb (s .queue .config .settings .«max_entries») (s .entries)
+full-is s = leb·suc-suc (s .queue .config .settings .«max_entries») (s .entries)
+
 -- ---- 14, then 12
 
 module _ (s : Session) (e : Row.Entry) (p : Code.Place) where
-  pub packet-refusal-is : (r a b : ℕ) (w full : Bool) → r ≡ orElse a b → w ≡ waits (place p) → full ≡ atDepth (s .queue .config .settings) (s .entries) → a ≡ countRefusal (e .timestamp .0 ∷ e .number .0 ∷ mediaValues (s .queue .counters) (e .size) w full)
+  pub packet-refusal-is : (r a b : ℕ) (w full : Bool) → r ≡ orElse a b → w ≡ waits (place p) → full ≡ overfull (s .queue .config .settings) (suc (s .entries)) → a ≡ countRefusal (e .timestamp .0 ∷ e .number .0 ∷ mediaValues (s .queue .counters) (e .size) w full)
       → b ≡ refuseIf (tooManyGaps (s .queue .config .settings) (s .gaps) (e .number .0) (place p)) GAPS-FULL
       → r ≡ packetRefusal (s .queue) (s .entries) (s .gaps) (e .timestamp .0) (e .number .0) (e .size) (place p)
   unfolding packetRefusal
@@ -85,7 +89,7 @@ module _ (instant : ℕ) (e : Row.Entry) (payload : List ℕ) (p : Code.Place) (
   ready-for = holding m (f .settled)
 
   abbrev raises : List ℕ
-  raises = x .timestamp ∷ x .number ∷ mediaValues (parse m .queue .counters) (length payload) (waits (place p)) (atDepth (parse m .queue .config .settings) (length (parse m .entries)))
+  raises = x .timestamp ∷ x .number ∷ mediaValues (parse m .queue .counters) (length payload) (waits (place p)) (overfull (parse m .queue .config .settings) (suc (length (parse m .entries))))
 
   values : Each (λ v. v ≤ largest) raises
   unfolding packetRefusal
@@ -146,15 +150,15 @@ module _ (instant : ℕ) (e : Row.Entry) (payload : List ℕ) (p : Code.Place) (
     abbrev after : State
     after = afterQueued instant x (place p) (parse m)
 
-    over-is : overfull after ≡ ltb (m .session .queue .config .settings .«max_entries») (suc (m .session .entries))
-    unfolding overfull afterQueued heard parse
+    over-is : overfull (after .queue .config .settings) (length (after .entries)) ≡ overfull (m .session .queue .config .settings) (suc (m .session .entries))
+    unfolding afterQueued heard parse
     over-is = ap (ltb (m .session .queue .config .settings .«max_entries»)) (length-insert x _ ∙ ap suc (length-entriesOf (m .storage .entries) (m .storage .payloads) (m .session .entries)))
 
     -- below the depth
     placed-below : m .session .entries < m .session .queue .config .settings .«max_entries» → afterPlaced instant x (place p) (parse m) ≡ after
     unfolding afterPlaced withinDepth
     placed-below low =
-        let o : overfull after ≡ false = over-is ∙ le-ltb _ _ low in
+        let o : overfull (after .queue .config .settings) (length (after .entries)) ≡ false = over-is ∙ le-ltb _ _ low in
         rw (w, o)
 
     abbrev opened : List Gap
@@ -189,18 +193,18 @@ module _ (instant : ℕ) (e : Row.Entry) (payload : List ℕ) (p : Code.Place) (
       abbrev grown : List Entry
       grown = insertSorted x (parse m .entries)
 
-      at-depth : overfull after ≡ true
+      at-depth : overfull (after .queue .config .settings) (length (after .entries)) ≡ true
       at-depth = over-is ∙ lt-ltb (m .session .queue .config .settings .«max_entries») (suc (m .session .entries)) (omega arith)
 
       placed-over : afterPlaced instant x (place p) (parse m) ≡ record { queue = queuePushedOut (firstNumber grown) (after .queue); entries = drop 1 grown; gaps = gapsFrom (firstNumber grown) (after .gaps); remembered = after .remembered }
       unfolding afterPlaced withinDepth afterQueued
-      placed-over = let o : overfull after ≡ true = at-depth in rw (w, o) (frontOut-is grown after (omega (arith, length-insert x (parse m .entries))))
+      placed-over = let o : overfull (after .queue .config .settings) (length (after .entries)) ≡ true = at-depth in rw (w, o) (frontOut-is grown after (omega (arith, length-insert x (parse m .entries))))
 
       front-fits : m .session .queue .counters .dropped < largest
       unfolding mediaValues parse
       front-fits =
           let n : length (parse m .entries) ≡ m .session .entries = parse-entries m in
-          let o : atDepth (m .session .queue .config .settings) (length (parse m .entries)) ≡ true = le-leb (m .session .queue .config .settings .«max_entries») (length (parse m .entries)) (omega arith) in
+          let o : overfull (m .session .queue .config .settings) (suc (length (parse m .entries))) ≡ true = lt-ltb (m .session .queue .config .settings .«max_entries») (suc (length (parse m .entries))) (omega arith) in
           let k = rw (w, o) at (each-rest (each-rest values)) in
           omega (arith, each-first (each-rest (each-rest k)))
 

@@ -17,7 +17,8 @@ use Rattle.rtx_state.specs.Repair.{recordTooLate, recordInTime}
 use Rattle.model.specs.declared.Queue.{Queue}
 use Rattle.model.specs.declared.Session.{Session}
 use Rattle.model.specs.Lists.{keep, some?}
-use Rattle.model.specs.Records.{Entry, Remembered, State, returnedOf}
+use Rattle.rtp.specs.Opt.{numberOf}
+use Rattle.model.specs.Records.{Entry, Remembered, State}
 use Rattle.model.specs.Rules.{is, gapOf, without, onceOf, instantOf, isOf, forgetFirst}
 use Rattle.model.specs.Push.{passed, insertSorted, Fate, tooLate, recovered, redundant, repairFate, queueTooLate, queueRedundant, queueRecovered, afterFate}
 use Rattle.model.specs.Storage.{Stored, ENTRY-WORDS, PAYLOAD-BYTES, arrivalWord, entryWords, payloadBytes, gapWords, rememberedWords, entryPlaces, entriesOf, gapsOf, rememberedOf, entriesLaid, payloadsLaid, gapsLaid, rememberedLaid, parse, write}
@@ -119,7 +120,7 @@ module _ (instant : ℕ) (e : Row.Entry) (payload : List ℕ) (m : Stored) (f : 
 
   pub open-gap : some? (is (e .number .0)) (gapsOf (m .storage .gaps) (m .session .gaps)) ≡ true
   unfolding fate repairFate parse
-  open-gap = fate-some (passed (m .session .queue .config .settings .mode) (returnedOf (m .session .queue .returned)) (e .number .0)) _ (f .meets)
+  open-gap = fate-some (passed (m .session .queue .config .settings .mode) (numberOf (m .session .queue .returned)) (e .number .0)) _ (f .meets)
 
   place-left : m .session .entries < entryPlaces (m .session .queue .config .settings)
   unfolding fate fateRefusal noPlace parse

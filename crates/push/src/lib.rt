@@ -2,7 +2,7 @@
 ghost use mathlib.Core.Path.{_≡_};
 ghost use mathlib.Core.Bool.{true};
 ghost use mathlib.Core.List.{List, []};
-ghost use Prim.Native.Nat.{ℕ, _+_, _≤_, _<_};
+ghost use Prim.Native.Nat.{ℕ, suc, _+_, _≤_, _<_};
 ghost use lib.ListN.{length};
 ghost use Rattle.model.specs.Rules as Rules;
 ghost use Rattle.model.specs.Push as Push;
@@ -10,7 +10,7 @@ ghost use Rattle.model.specs.Storage.{parse, write};
 ghost use Rattle.durations.specs.Seconds.{largest};
 ghost use Rattle.rtp_packet.specs.Datagram.{LARGEST-PAYLOAD};
 ghost use Rattle.model.specs.Calls.{media, placedAnswer};
-ghost use Rattle.model.specs.Table.{atDepth, sessionSound, packetRefusal};
+ghost use Rattle.model.specs.Table.{sessionSound, packetRefusal};
 ghost use Rattle.entries.specs.Entries.{entry};
 ghost use Rattle.session.specs.Place as Spec;
 ghost use Rattle.push.specs.Answers.{mediaAnswer};
@@ -73,7 +73,7 @@ fn extended_entry(
 
 // Whether one more entry would be beyond the depth.
 fn is_full(s: Session) -> bool
-    ensures { λ r. ⌜ r ≡ atDepth (s .queue .config .settings) (s .entries) ⌝ }
+    ensures { λ r. ⌜ r ≡ Rules.overfull (s .queue .config .settings) (suc (s .entries)) ⌝ }
 {
     let config = s.queue.config;
     let settings = config.settings;

@@ -10,10 +10,10 @@ use jitter::Jitter;
 use model::Config;
 use model::Counters;
 use model::LastReceived;
-use model::LastReturned;
 use model::Queue;
 use model::Session;
 use packet_loss::PacketLoss;
+use rtp::opt::OptNumber;
 use rtx_state::RtxState;
 
 // A session that holds nothing.
@@ -25,7 +25,7 @@ fn new_session(config: Config) -> Session
         config,
         clock: 0,
         last: LastReceived::None,
-        returned: LastReturned::None,
+        returned: OptNumber::None,
         rtx: RtxState::new(),
         counters: Counters {
             dropped: 0,

@@ -4,6 +4,10 @@ use mathlib.Core.Path.{_≡_}
 use Prim.Native.Nat.{ℕ, _+_, _-_, _*_, _/_, _%_, _^_, _≤_, _<_}
 use lib.Dec.{ltb}
 
+-- the low w bits of a number
+abbrev pub lowBits : ℕ → ℕ → ℕ
+lowBits w n = n % 2 ^ w
+
 -- the distance of two numbers
 unfoldable pub apart : ℕ → ℕ → ℕ
 apart a b = (a - b) + (b - a)
@@ -34,10 +38,10 @@ guessed w reference got = nearer reference (nearer reference (base w reference g
 -- What extending a number of w bits amounts to.
 pub record Extends (w : ℕ) : Type 0 where
   -- the answer's low bits are the number received
-  pub low-bits : (reference got : ℕ) → got < 2 ^ w → guessed w reference got % 2 ^ w ≡ got
+  pub low-bits : (reference got : ℕ) → got < 2 ^ w → lowBits w (guessed w reference got) ≡ got
   -- of all 64-bit numbers with those low bits it is a nearest one
   pub nearest :
-      (reference got n : ℕ) → reference < 2 ^ 64 → got < 2 ^ w → n < 2 ^ 64 → n % 2 ^ w ≡ got → apart reference (guessed w reference got) ≤ apart reference n
+      (reference got n : ℕ) → reference < 2 ^ 64 → got < 2 ^ w → n < 2 ^ 64 → lowBits w n ≡ got → apart reference (guessed w reference got) ≤ apart reference n
   -- at equal distance it is the base
   pub base-first :
       (reference got : ℕ) → apart reference (base w reference got) ≤ apart reference (guessed w reference got) → guessed w reference got ≡ base w reference got

@@ -6,15 +6,18 @@ use Rattle.durations.specs.Seconds.{largest}
 use Rattle.stats.specs.declared.RtpInboundRtxStats.{RtpInboundRtxStats}
 use Rattle.rtx_state.specs.RoundTrip.{sampledRtt, srttOf, optRttInRange}
 use Rattle.rtx_state.specs.declared.RtxState.{RtxState}
+use Rattle.rtx_state.specs.declared.OptRtt.{OptRtt}
 use Rattle.rtx_state.specs.declared.OptRtt.the-variants.{None}
 
 abbrev pub newRtxState : RtxState
 newRtxState = record { rtt = None; «received_in_time» = 0; «received_too_late» = 0; «received_redundant» = 0; «bytes_received» = 0 }
 
+abbrev pub withRtt : RtxState → OptRtt → RtxState
+withRtt s e = record { rtt = e; «received_in_time» = s .«received_in_time»; «received_too_late» = s .«received_too_late»; «received_redundant» = s .«received_redundant»; «bytes_received» = s .«bytes_received» }
+
 unfoldable pub updateRtt : RtxState → ℕ → RtxState
 unfolding sampledRtt
-updateRtt s sample =
-    record { rtt = sampledRtt (s .rtt) sample; «received_in_time» = s .«received_in_time»; «received_too_late» = s .«received_too_late»; «received_redundant» = s .«received_redundant»; «bytes_received» = s .«bytes_received» }
+updateRtt s sample = withRtt s (sampledRtt (s .rtt) sample)
 
 unfoldable pub recordInTime : RtxState → ℕ → RtxState
 recordInTime s size =

@@ -2,17 +2,18 @@
 // values that it works out. Each function is one definition of `model`.
 ghost use mathlib.Core.Path.{_≡_};
 ghost use Prim.Native.Nat.{_+_, _<_, _^_};
+ghost use Rattle.rtp.specs.Opt as Opt;
 ghost use Rattle.model.specs.Records as Records;
 ghost use Rattle.model.specs.Push as Push;
 ghost use Rattle.model.specs.Poll as Poll;
 use model::Counters;
 use model::LastReceived;
-use model::LastReturned;
 use model::Queue;
 use rtp::ExtendedRtpTimestamp;
 use rtp::ExtendedSequenceNumber;
 use rtp::RtpTimestamp;
 use rtp::SequenceNumber;
+use rtp::opt::OptNumber;
 
 pub mod nack;
 pub mod poll;
@@ -42,7 +43,7 @@ pub fn extended_timestamp(q: Queue, got: RtpTimestamp) -> ExtendedRtpTimestamp
 
 // Whether a sorted queue has passed the number.
 pub fn passed(q: Queue, number: ExtendedSequenceNumber) -> bool
-    ensures { λ r. ⌜ r ≡ Push.passed (q .config .settings .mode) (Records.returnedOf (q .returned)) (number .0) ⌝ }
+    ensures { λ r. ⌜ r ≡ Push.passed (q .config .settings .mode) (Opt.numberOf (q .returned)) (number .0) ⌝ }
 {
     let bounds = packet_gaps::check::bounds_of(q);
     let passed = bounds.passed;
@@ -89,7 +90,7 @@ pub fn lose(q: Queue, n: u64) -> Queue
 fn with_returned(q: Queue, number: ExtendedSequenceNumber) -> Queue
     ensures { λ r. ⌜ r ≡ Records.withReturned q (number .0) ⌝ }
 {
-    let returned = LastReturned::Some(number);
+    let returned = OptNumber::Some(number);
     let config = q.config;
     let last = q.last;
     let rtx = q.rtx;

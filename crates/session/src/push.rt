@@ -1,13 +1,11 @@
 // `push` (000) on the records that go by value: what is counted, and which check turns a media packet back.
 ghost use mathlib.Core.Path.{_≡_};
 ghost use mathlib.Core.Bool.{_&&_};
-ghost use mathlib.Core.List.{List, [], _∷_};
+ghost use mathlib.Core.List.{[], _∷_};
 ghost use Prim.Native.Nat.{_+_, _-_, _<_, _≤_};
 ghost use lib.Dec.{leb, ltb};
-ghost use lib.ListN.{length};
 ghost use Rattle.durations.specs.Seconds.{largest};
 ghost use Rattle.refusals.specs.Refusals as Refusals;
-ghost use Rattle.model.specs.Records as Records;
 ghost use Rattle.model.specs.Rules as Rules;
 ghost use Rattle.model.specs.Push as Push;
 ghost use Rattle.model.specs.Table as Table;

@@ -1,6 +1,7 @@
 -- `returned_sound` meets its contract, arm by arm.
 use Rattle.model.specs.Valid.{returnedSound, atMost}
-use Rattle.model.specs.Records.{highestOf, returnedOf}
+use Rattle.rtp.specs.Opt.{numberOf}
+use Rattle.model.specs.Records.{highestOf}
 use borrow.Author.Needs.{needs}
 use Rattle.checks.proofs.returned_sound.Statement.{statement}
 use Rattle.checks.proofs.returned_sound.Tie as tie
@@ -18,15 +19,15 @@ enum-known-last : tie.Need-enum-known-last
 enum-known-last c = search needs
 
 returns : tie.Need-returns
-unfolding returnedSound atMost highestOf returnedOf
+unfolding returnedSound atMost highestOf numberOf
 returns c = cc
 
 returns-2 : tie.Need-returns-2
-unfolding returnedSound atMost highestOf returnedOf
+unfolding returnedSound atMost highestOf numberOf
 returns-2 c = cc
 
 returns-3 : tie.Need-returns-3
-unfolding returnedSound atMost highestOf returnedOf
+unfolding returnedSound atMost highestOf numberOf
 returns-3 c = cc
 
 pub returned-sound-spec : {M : Type 1} → statement M

@@ -4,6 +4,9 @@ use borrow.Author.Needs.{needs}
 use Rattle.ffi_words.proofs.config_of.Statement.{statement}
 use Rattle.ffi_words.proofs.config_of.Tie as tie
 
+cast-mode-of : tie.Need-cast-mode-of
+cast-mode-of c = search needs
+
 mode-of-requires : tie.Need-mode-of-requires
 mode-of-requires c κs = search needs
 
@@ -12,4 +15,4 @@ unfolding configOf
 returns c = cc
 
 pub config-of-spec : {M : Type 1} → statement M
-config-of-spec = tie.close (tie.spec mode-of-requires returns)
+config-of-spec = tie.close (tie.spec cast-mode-of mode-of-requires returns)

@@ -2,6 +2,7 @@
 use mathlib.Core.Path.{sym, _∙_}
 use borrow.Author.Tests.{leb-true, leb-false}
 use borrow.Author.Needs.{needs}
+use Rattle.push.proofs.Media.{full-is}
 use Rattle.push.proofs.queue_packet.Statement.{statement}
 use Rattle.push.proofs.queue_packet.Tie as tie
 
@@ -9,7 +10,7 @@ is-full-requires : tie.Need-is-full-requires
 is-full-requires c κs = search needs
 
 push-out-packet-requires : tie.Need-push-out-packet-requires
-push-out-packet-requires c κs = let s = c .before .before .before .before .before .before .before .before .before .before in (s .pre .0, (s .pre .1, leb-true _ _ (sym (c .before .before .before .before .is-full .ensures) ∙ c .before .before .before .if1 .taken)))
+push-out-packet-requires c κs = let s = c .before .before .before .before .before .before .before .before .before .before in (s .pre .0, (s .pre .1, leb-true _ _ (sym (full-is (s .args .s)) ∙ sym (c .before .before .before .before .is-full .ensures) ∙ c .before .before .before .if1 .taken)))
 
 same-length : tie.Need-same-length
 same-length c = search needs
@@ -24,7 +25,7 @@ returns : tie.Need-returns
 returns c = c .before .before .before .before .before .before .push-out-packet .ensures
 
 insert-packet-requires : tie.Need-insert-packet-requires
-insert-packet-requires c κs = let s = c .before .before .before .before .before .before .before .before .before .before in (s .pre .0, (s .pre .1, leb-false _ _ (sym (c .before .before .before .before .is-full .ensures) ∙ c .before .before .before .if1 .left)))
+insert-packet-requires c κs = let s = c .before .before .before .before .before .before .before .before .before .before in (s .pre .0, (s .pre .1, leb-false _ _ (sym (full-is (s .args .s)) ∙ sym (c .before .before .before .before .is-full .ensures) ∙ c .before .before .before .if1 .left)))
 
 same-length-4 : tie.Need-same-length-4
 same-length-4 c = search needs

@@ -1,6 +1,5 @@
 -- `passed_of`: each arm is a line of the definition.
 use Rattle.rtp.specs.Opt.{numberOf}
-use Rattle.model.specs.Records.{returnedOf}
 use Rattle.model.specs.Push.{passedOf}
 use borrow.Author.Needs.{needs}
 use Rattle.packet_gaps.proofs.check.passed_of.Statement.{statement}
@@ -12,25 +11,13 @@ enum-told c = search needs
 enum-told-2 : tie.Need-enum-told-2
 enum-told-2 c = search needs
 
-enum-told-3 : tie.Need-enum-told-3
-enum-told-3 c = search needs
-
-enum-known-returned : tie.Need-enum-known-returned
-enum-known-returned c = search needs
-
 returns : tie.Need-returns
-unfolding numberOf passedOf returnedOf
+unfolding numberOf passedOf
 returns c = cc
 
 returns-2 : tie.Need-returns-2
-unfolding numberOf passedOf returnedOf
+unfolding numberOf passedOf
 returns-2 c = cc
 
-returns-3 : tie.Need-returns-3
-unfolding numberOf passedOf returnedOf
-returns-3 c = cc
-
 pub passed-of-spec : {M : Type 1} → statement M
-passed-of-spec =
-    tie.close
-    (tie.spec enum-told enum-told-2 enum-told-3 enum-known-returned returns returns-2 returns-3)
+passed-of-spec = tie.close (tie.spec enum-told enum-told-2 returns returns-2)

@@ -1,8 +1,8 @@
--- `mode_of` meets its contract: by the word.
+-- `mode_of` meets its contract: by the number.
 use borrow.Author.Tests.{eq-eqb, ne-eqb}
-use Rattle.ffi_words.specs.Words.{modeOf}
-use Rattle.ffi_words.proofs.mode_of.Statement.{statement}
-use Rattle.ffi_words.proofs.mode_of.Tie as tie
+use Rattle.config.specs.Mode.{modeOf}
+use Rattle.config.proofs.mode_of.Statement.{statement}
+use Rattle.config.proofs.mode_of.Tie as tie
 
 returns : tie.Need-returns
 unfolding modeOf
