@@ -19,8 +19,8 @@ use Rattle.model.specs.Did.{Done, did, opened}
 use Rattle.ffi_words.specs.declared.ConfigWords.{ConfigWords}
 use Rattle.ffi_words.specs.declared.SessionWords.{SessionWords}
 use Rattle.ffi_words.specs.declared.answers.Opened.{Opened}
-use Rattle.ffi_words.specs.declared.answers.Figures.{Figures}
-use Rattle.ffi_words.specs.declared.answers.Lengths.{Lengths}
+use Rattle.ffi_words.specs.declared.figures.Figures.{Figures}
+use Rattle.ffi_words.specs.declared.figures.Lengths.{Lengths}
 use Rattle.ffi_words.specs.Words.{configReadable, readable, configOf, queueOf, sessionOf}
 use Rattle.ffi_words.specs.Told.{back, openTold, noFigures}
 

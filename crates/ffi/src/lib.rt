@@ -13,15 +13,16 @@ use entries::PAYLOAD_BYTES;
 use ffi_words::ConfigWords;
 use ffi_words::SessionWords;
 use ffi_words::answers;
-use ffi_words::answers::Figures;
-use ffi_words::answers::Highest;
-use ffi_words::answers::Lengths;
 use ffi_words::answers::Opened;
 use ffi_words::answers::Polled;
 use ffi_words::answers::PolledNack;
 use ffi_words::answers::Pushed;
-use ffi_words::answers::RtxStats;
-use ffi_words::answers::Timeout;
+use ffi_words::figures;
+use ffi_words::figures::Figures;
+use ffi_words::figures::Highest;
+use ffi_words::figures::Lengths;
+use ffi_words::figures::RtxStats;
+use ffi_words::figures::Timeout;
 use lost_nacked::MAX_LOST_NACKED;
 use lost_nacked::REMEMBERED_WORDS;
 use model::Queue;
@@ -156,11 +157,11 @@ pub extern "C" fn bizhgemu_timeout_receive(
     ensures { λ r. ⌜ Gives (alone Told.timeoutTold) (Calls.timeoutReceive now) session (lent entries payloads gaps remembered) r (left entries payloads gaps remembered) [] ⌝ }
 {
     if !ffi_words::readable(session) {
-        return answers::timeout_refused(refusals::SESSION);
+        return figures::timeout_refused(refusals::SESSION);
     }
     let read = ffi_words::session_of(session);
     let answer = reading::timeout_receive(read, entries, payloads, gaps, remembered, now);
-    answers::timeout_told(answer)
+    figures::timeout_told(answer)
 }
 
 #[no_mangle]
@@ -175,11 +176,11 @@ pub extern "C" fn bizhgemu_timeout_nack(
     ensures { λ r. ⌜ Gives (alone Told.timeoutTold) (Calls.timeoutNack now) session (lent entries payloads gaps remembered) r (left entries payloads gaps remembered) [] ⌝ }
 {
     if !ffi_words::readable(session) {
-        return answers::timeout_refused(refusals::SESSION);
+        return figures::timeout_refused(refusals::SESSION);
     }
     let read = ffi_words::session_of(session);
     let answer = reading::timeout_nack(read, entries, payloads, gaps, remembered, now);
-    answers::timeout_told(answer)
+    figures::timeout_told(answer)
 }
 
 #[no_mangle]
@@ -193,11 +194,11 @@ pub extern "C" fn bizhgemu_rtx_stats(
     ensures { λ r. ⌜ Gives (alone Told.statsTold) Calls.rtxStats session (lent entries payloads gaps remembered) r (left entries payloads gaps remembered) [] ⌝ }
 {
     if !ffi_words::readable(session) {
-        return answers::stats_refused(refusals::SESSION);
+        return figures::stats_refused(refusals::SESSION);
     }
     let read = ffi_words::session_of(session);
     let answer = reading::rtx_stats(read, entries, payloads, gaps, remembered);
-    answers::stats_told(answer)
+    figures::stats_told(answer)
 }
 
 #[no_mangle]
@@ -211,7 +212,7 @@ pub extern "C" fn bizhgemu_highest_sequence_number_received(
     ensures { λ r. ⌜ Gives (alone Told.highestTold) Calls.highestReceived session (lent entries payloads gaps remembered) r (left entries payloads gaps remembered) [] ⌝ }
 {
     if !ffi_words::readable(session) {
-        return answers::highest_refused(refusals::SESSION);
+        return figures::highest_refused(refusals::SESSION);
     }
     let read = ffi_words::session_of(session);
     let answer = reading::highest_sequence_number_received(
@@ -221,7 +222,7 @@ pub extern "C" fn bizhgemu_highest_sequence_number_received(
         gaps,
         remembered,
     );
-    answers::highest_told(answer)
+    figures::highest_told(answer)
 }
 
 fn figures_told(q: Queue) -> Figures
@@ -229,10 +230,10 @@ fn figures_told(q: Queue) -> Figures
 {
     let config = q.config;
     if !checks::config_valid(config) {
-        return answers::figures_refused(refusals::SESSION);
+        return figures::figures_refused(refusals::SESSION);
     }
     if !checks::queue_sound(q) {
-        return answers::figures_refused(refusals::SESSION);
+        return figures::figures_refused(refusals::SESSION);
     }
     let counters = q.counters;
     let jitter = q.jitter;
@@ -254,7 +255,7 @@ pub extern "C" fn bizhgemu_figures(session: SessionWords) -> Figures
     ensures { λ r. ⌜ r ≡ Exported.figures session ⌝ }
 {
     if !ffi_words::readable(session) {
-        return answers::figures_refused(refusals::SESSION);
+        return figures::figures_refused(refusals::SESSION);
     }
     figures_told(ffi_words::queue_of(session))
 }

@@ -19,10 +19,10 @@ use Rattle.ffi_words.specs.declared.answers.Pushed.{Pushed}
 use Rattle.ffi_words.specs.declared.answers.Packet.{Packet}
 use Rattle.ffi_words.specs.declared.answers.Polled.{Polled}
 use Rattle.ffi_words.specs.declared.answers.PolledNack.{PolledNack}
-use Rattle.ffi_words.specs.declared.answers.Timeout.{Timeout}
-use Rattle.ffi_words.specs.declared.answers.RtxStats.{RtxStats}
-use Rattle.ffi_words.specs.declared.answers.Highest.{Highest}
-use Rattle.ffi_words.specs.declared.answers.Figures.{Figures}
+use Rattle.ffi_words.specs.declared.figures.Timeout.{Timeout}
+use Rattle.ffi_words.specs.declared.figures.RtxStats.{RtxStats}
+use Rattle.ffi_words.specs.declared.figures.Highest.{Highest}
+use Rattle.ffi_words.specs.declared.figures.Figures.{Figures}
 use Rattle.ffi_words.specs.Words.{flag, wordsOf, noSession}
 
 -- ---- what an answer tells

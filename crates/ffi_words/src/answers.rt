@@ -1,13 +1,14 @@
-// What the exported calls answer. `refusal` is 01's number, or 0; what is not told (refused, or its flag is 0) is 0.
+// What the opening and the calls that change a session answer. `refusal` is 01's number, or 0; what is not told (refused, or its flag is
+// 0) is 0.
 ghost use mathlib.Core.Path.{_≡_};
 ghost use mathlib.Core.List.{[], _∷_};
 ghost use Rattle.model.specs.Calls as Calls;
 ghost use Rattle.model.specs.Did as Did;
-ghost use Rattle.queue.specs.Answers.{openingAnswer, timeoutAnswer, statsAnswer, highestAnswer};
+ghost use Rattle.queue.specs.Answers.{openingAnswer};
 ghost use Rattle.push.specs.Answers.{mediaAnswer, repairAnswer};
 ghost use Rattle.poll.specs.Answers.{packetOf, pollAnswer, nackAnswer};
 ghost use Rattle.ffi_words.specs.Words.{flag, wordsOf};
-ghost use Rattle.ffi_words.specs.Told.{optWords, packetWords, statsWords, back, pushed, polled, polledNack, timeoutTold, statsTold, highestTold, openTold, noFigures};
+ghost use Rattle.ffi_words.specs.Told.{optWords, packetWords, back, pushed, polled, polledNack, openTold};
 use super::SessionWords;
 use model::Session;
 use poll::HandedOut;
@@ -15,12 +16,8 @@ use poll::PollAnswer;
 use poll::nack::NackAnswer;
 use push::MediaAnswer;
 use push::rtx::RepairAnswer;
-use queue::HighestAnswer;
 use queue::Opening;
-use queue::StatsAnswer;
-use queue::TimeoutAnswer;
 use rtp::opt::Opt;
-use stats::OptRtxStats;
 
 #[repr(C)]
 pub struct Opened {
@@ -64,55 +61,6 @@ pub struct PolledNack {
     pub refusal: u64,
     pub count: usize,
     pub session: SessionWords,
-}
-
-// Nanoseconds.
-#[repr(C)]
-pub struct Timeout {
-    pub refusal: u64,
-    pub has_timeout: u64,
-    pub timeout: u64,
-}
-
-#[repr(C)]
-pub struct RtxStats {
-    pub refusal: u64,
-    pub has_stats: u64,
-    pub packets_received_in_time: u64,
-    pub packets_received_too_late: u64,
-    pub packets_received_redundant: u64,
-    pub bytes_received: u64,
-    pub has_rtt: u64,
-    pub rtt: u64,
-}
-
-#[repr(C)]
-pub struct Highest {
-    pub refusal: u64,
-    pub has_number: u64,
-    pub number: u64,
-}
-
-// The inbound stream: 000's counters as they stand, the jitter in nanoseconds.
-#[repr(C)]
-pub struct Figures {
-    pub refusal: u64,
-    pub packets_received: u64,
-    pub packets_dropped: u64,
-    pub packets_lost: u64,
-    pub bytes_received: u64,
-    pub jitter: u64,
-    pub loss: f32,
-}
-
-// Elements of the lent slices.
-#[repr(C)]
-pub struct Lengths {
-    pub refusal: u64,
-    pub entries: usize,
-    pub payloads: usize,
-    pub gaps: usize,
-    pub remembered: usize,
 }
 
 // A number that may be missing, as a flag and a value.
@@ -175,7 +123,7 @@ pub fn packet_words(h: HandedOut) -> Packet
 pub fn open_refused(refusal: u64) -> Opened
     ensures { λ r. ⌜ r ≡ openTold (Did.refused refusal) ⌝ }
 {
-    let session = super::no_session();
+    let session = super::writing::no_session();
     Opened { refusal, session }
 }
 
@@ -184,7 +132,7 @@ pub fn open_told(opening: Opening) -> Opened
 {
     match opening {
         Opening::Session(s) => {
-            let session = super::words_of(s);
+            let session = super::writing::words_of(s);
             Opened {
                 refusal: 0,
                 session,
@@ -207,7 +155,7 @@ pub fn push_refused(refusal: u64, given: SessionWords) -> Pushed
 fn push_done(answer: u64, left: Session) -> Pushed
     ensures { λ r. ⌜ r ≡ record { refusal = 0; answer = answer; session = wordsOf left } ⌝ }
 {
-    let session = super::words_of(left);
+    let session = super::writing::words_of(left);
     Pushed {
         refusal: 0,
         answer,
@@ -251,7 +199,7 @@ pub fn poll_refused(refusal: u64, given: SessionWords) -> Polled
 fn poll_done(has_packet: u64, packet: Packet, left: Session) -> Polled
     ensures { λ r. ⌜ r ≡ record { refusal = 0; «has_packet» = «has_packet»; packet = packet; session = wordsOf left } ⌝ }
 {
-    let session = super::words_of(left);
+    let session = super::writing::words_of(left);
     Polled {
         refusal: 0,
         has_packet,
@@ -283,7 +231,7 @@ pub fn nack_refused(refusal: u64, given: SessionWords) -> PolledNack
 fn nack_done(count: usize, left: Session) -> PolledNack
     ensures { λ r. ⌜ r ≡ record { refusal = 0; count = count; session = wordsOf left } ⌝ }
 {
-    let session = super::words_of(left);
+    let session = super::writing::words_of(left);
     PolledNack {
         refusal: 0,
         count,
@@ -298,115 +246,5 @@ pub fn nack_told(answer: NackAnswer, given: SessionWords, left: Session) -> Poll
         NackAnswer::Nothing => nack_done(0, left),
         NackAnswer::Numbers(n) => nack_done(n, left),
         NackAnswer::Refused(k) => nack_refused(k, given),
-    }
-}
-
-pub fn timeout_refused(refusal: u64) -> Timeout
-    ensures { λ r. ⌜ r ≡ timeoutTold (Calls.refused refusal) ⌝ }
-{
-    Timeout {
-        refusal,
-        has_timeout: 0,
-        timeout: 0,
-    }
-}
-
-pub fn timeout_told(answer: TimeoutAnswer) -> Timeout
-    ensures { λ r. ⌜ r ≡ timeoutTold (timeoutAnswer answer) ⌝ }
-{
-    match answer {
-        TimeoutAnswer::Timeout(t) => {
-            let words = opt_words(t);
-            Timeout {
-                refusal: 0,
-                has_timeout: words.has,
-                timeout: words.value,
-            }
-        }
-        TimeoutAnswer::Refused(k) => timeout_refused(k),
-    }
-}
-
-pub fn stats_refused(refusal: u64) -> RtxStats
-    ensures { λ r. ⌜ r ≡ statsTold (Calls.refused refusal) ⌝ }
-{
-    RtxStats {
-        refusal,
-        has_stats: 0,
-        packets_received_in_time: 0,
-        packets_received_too_late: 0,
-        packets_received_redundant: 0,
-        bytes_received: 0,
-        has_rtt: 0,
-        rtt: 0,
-    }
-}
-
-fn stats_words(stats: OptRtxStats) -> RtxStats
-    ensures { λ r. ⌜ r ≡ statsWords 0 stats ⌝ }
-{
-    match stats {
-        OptRtxStats::None => stats_refused(0),
-        OptRtxStats::Some(f) => {
-            let trip = f.rtt;
-            let words = opt_words(trip);
-            RtxStats {
-                refusal: 0,
-                has_stats: 1,
-                packets_received_in_time: f.packets_received_in_time,
-                packets_received_too_late: f.packets_received_too_late,
-                packets_received_redundant: f.packets_received_redundant,
-                bytes_received: f.bytes_received,
-                has_rtt: words.has,
-                rtt: words.value,
-            }
-        }
-    }
-}
-
-pub fn stats_told(answer: StatsAnswer) -> RtxStats
-    ensures { λ r. ⌜ r ≡ statsTold (statsAnswer answer) ⌝ }
-{
-    match answer {
-        StatsAnswer::Stats(stats) => stats_words(stats),
-        StatsAnswer::Refused(k) => stats_refused(k),
-    }
-}
-
-pub fn highest_refused(refusal: u64) -> Highest
-    ensures { λ r. ⌜ r ≡ highestTold (Calls.refused refusal) ⌝ }
-{
-    Highest {
-        refusal,
-        has_number: 0,
-        number: 0,
-    }
-}
-
-pub fn highest_told(answer: HighestAnswer) -> Highest
-    ensures { λ r. ⌜ r ≡ highestTold (highestAnswer answer) ⌝ }
-{
-    match answer {
-        HighestAnswer::None => highest_refused(0),
-        HighestAnswer::Number(n) => Highest {
-            refusal: 0,
-            has_number: 1,
-            number: n.0,
-        },
-        HighestAnswer::Refused(k) => highest_refused(k),
-    }
-}
-
-pub fn figures_refused(refusal: u64) -> Figures
-    ensures { λ r. ⌜ r ≡ noFigures refusal ⌝ }
-{
-    Figures {
-        refusal,
-        packets_received: 0,
-        packets_dropped: 0,
-        packets_lost: 0,
-        bytes_received: 0,
-        jitter: 0,
-        loss: 0.0,
     }
 }
