@@ -4,7 +4,7 @@
 use mathlib.Core.Path.{_≡_, refl, sym, ap, _∙_, subst}
 use mathlib.Core.Bool.{Bool, true, false, not}
 use mathlib.Core.List.{List, [], _∷_, _++_}
-use Prim.Native.Nat.{ℕ, _+_, _-_, _≤_, _<_}
+use Prim.Native.Nat.{ℕ, _≤_, _<_}
 use native.Mathlib.Omega.{arith}
 use lib.Arith.{le→nltb}
 use lib.Ieee.Fits.{and-l, and-r, and-i}
@@ -16,10 +16,10 @@ use Rattle.config.specs.declared.RtpInboundQueueMode.{RtpInboundQueueMode}
 use Rattle.config.specs.declared.RtpInboundQueueMode.the-variants.{Passthrough, SortedQueue}
 use Rattle.words.specs.Order.{leads, ascends}
 use Rattle.model.specs.Lists.{keep, some?}
-use Rattle.rtp.specs.Opt.{numberOf}
+use Rattle.rtp.specs.Opt.{numberOf, atMost}
 use Rattle.model.specs.Records.{Gap, Remembered, State, highestOf}
 use Rattle.model.specs.Rules.{is, below, gapsBelow, Place, other, placeOf, isOf, forgetFirst, latest, remember, rememberedAfter, lostBelow}
-use Rattle.model.specs.Push.{atOrBelow, passed, mediaPlace}
+use Rattle.model.specs.Push.{passed, mediaPlace}
 use Rattle.model.proofs.Lists.{by-cases, no-eqb, Each, none, more, each-first, each-rest, each-imp, each-append, each-kept, holds-of-some}
 use Rattle.model.proofs.Sound.{Reached, Ahead, Returned, ListsOf}
 use Rattle.model.proofs.SoundPoll.{each-remembered}
@@ -29,7 +29,7 @@ use Rattle.model.proofs.SoundPoll.{each-remembered}
 -- has no place
 passed-other : (mode : RtpInboundQueueMode) (r highest : Opt) (gaps : List Gap) (n : ℕ)
     → T (passed mode r n) → Returned highest r → (T (some? (is n) gaps) → Ahead mode r n) → placeOf highest gaps n ≡ other
-unfolding passed atOrBelow Returned Reached Ahead placeOf
+unfolding passed atMost Returned Reached Ahead placeOf
 passed-other Passthrough r highest gaps n t u f = absurd t
 passed-other SortedQueue None highest gaps n t u f = absurd t
 passed-other SortedQueue (Some m) None gaps n t u f = absurd u
@@ -57,7 +57,7 @@ module _ (s : State) (l : ListsOf s) where
 -- of the last returned, the numbers handed out and those remembered
 unfoldable pub Past : RtpInboundQueueMode → Opt → List ℕ → List Remembered → Type 0
 Past Passthrough r out l = l ≡ []
-Past SortedQueue r out l = T (ascends out) × (Each (λ (n : ℕ). T (atOrBelow n r)) out × Each (λ (x : Remembered). T (atOrBelow (x .number) r)) l)
+Past SortedQueue r out l = T (ascends out) × (Each (λ (n : ℕ). T (atMost n r)) out × Each (λ (x : Remembered). T (atMost (x .number) r)) l)
 
 abbrev pub PastOf : RtpInboundQueueMode → List ℕ → State → Type 0
 PastOf mode out s = Past mode (numberOf (s .queue .returned)) out (s .remembered)
@@ -73,20 +73,20 @@ past-ascends r out l p = p .0
 
 -- ---- the last returned moves on
 
-before : (r : Opt) (w n : ℕ) → Ahead SortedQueue r w → T (atOrBelow n r) → n < w
-unfolding Ahead atOrBelow
+before : (r : Opt) (w n : ℕ) → Ahead SortedQueue r w → T (atMost n r) → n < w
+unfolding Ahead atMost
 before None w n a t = absurd t
 before (Some m) w n a t = omega (arith, leb→le n m t)
 
-at-most : (w n : ℕ) → n ≤ w → T (atOrBelow n (Some w))
-unfolding atOrBelow
+at-most : (w n : ℕ) → n ≤ w → T (atMost n (Some w))
+unfolding atMost
 at-most w n le = le→leb n w le
 
 module _ (r : Opt) (w : ℕ) (a : Ahead SortedQueue r w) where
-  stays : (n : ℕ) → T (atOrBelow n r) → T (atOrBelow n (Some w))
+  stays : (n : ℕ) → T (atMost n r) → T (atMost n (Some w))
   stays n t = let lt : n < w = before r w n a t in at-most w n (omega arith)
 
-  remembered-stay : {l : List Remembered} → Each (λ (x : Remembered). T (atOrBelow (x .number) r)) l → Each (λ (x : Remembered). T (atOrBelow (x .number) (Some w))) l
+  remembered-stay : {l : List Remembered} → Each (λ (x : Remembered). T (atMost (x .number) r)) l → Each (λ (x : Remembered). T (atMost (x .number) (Some w))) l
   remembered-stay h = each-imp (λ x t. stays (x .number) t) h
 
 -- to a number above it
@@ -103,7 +103,7 @@ ascends-more (x ∷ y ∷ ys) w a h =
     and-i (ltb x y) (ascends (y ∷ (ys ++ (w ∷ [])))) (and-l (ltb x y) (ascends (y ∷ ys)) a) (ascends-more (y ∷ ys) w (and-r (ltb x y) (ascends (y ∷ ys)) a) (each-rest h))
 
 -- the lost gaps that are remembered are below the one handed out
-each-lost : (w : ℕ) (gaps : List Gap) → Each (λ (g : Gap). T (atOrBelow (g .number) (Some w))) (gapsBelow w gaps)
+each-lost : (w : ℕ) (gaps : List Gap) → Each (λ (g : Gap). T (atMost (g .number) (Some w))) (gapsBelow w gaps)
 unfolding gapsBelow below
 each-lost w gaps =
     each-imp (λ g t. let lt : g .number < w = ltb→lt (g .number) w t in at-most w (g .number) (omega arith)) (each-kept (below w) gaps)
@@ -122,7 +122,7 @@ past-hand SortedQueue r w out l has gaps a p = (
   ascends-more out w (p .0) (each-imp (λ n t. before r w n a t) (p .1 .0)),
   (
     each-append (each-imp (stays r w a) (p .1 .0)) (more (at-most w w (omega arith)) none),
-    each-remembered (λ (x : Remembered). T (atOrBelow (x .number) (Some w))) has (each-lost w gaps) (remembered-stay r w a (p .1 .1)),
+    each-remembered (λ (x : Remembered). T (atMost (x .number) (Some w))) has (each-lost w gaps) (remembered-stay r w a (p .1 .1)),
   ),
 )
 
@@ -147,7 +147,7 @@ not-remembered : (mode : RtpInboundQueueMode) (r : Opt) (n : ℕ) (out : List �
 unfolding Past passed isOf
 not-remembered Passthrough r n out l t p = rw p none
 not-remembered SortedQueue r n out l t p =
-    each-imp (λ x u. no-eqb (x .number) n (λ e. T-not (atOrBelow n r) t (subst (λ (m : ℕ). T (atOrBelow m r)) e u))) (p .1 .1)
+    each-imp (λ x u. no-eqb (x .number) n (λ e. T-not (atMost n r) t (subst (λ (m : ℕ). T (atMost m r)) e u))) (p .1 .1)
 
 absent-keep : (n : ℕ) {l : List Remembered} → Each (λ (x : Remembered). T (not (isOf n x))) l → keep (isOf n) l ≡ []
 unfolding keep

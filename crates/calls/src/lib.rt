@@ -161,7 +161,6 @@ pub fn datagram(call: SessionCall, bytes: &[u8]) -> &[u8]
     &bytes[0..size]
 }
 
-// What is sent is the datagram of a call that has one.
 pub fn make(
     s: Session,
     entries: &mut [u64],

@@ -8,3 +8,7 @@ use Rattle.config.specs.declared.RtpInboundQueueMode.the-variants.{Passt
 -- 0 is `Passthrough`, 1 the sorted queue with a `Fixed` delay
 unfoldable pub modeOf : ℕ → RtpInboundQueueMode
 modeOf number = cond (eqb number 0) Passthrough SortedQueue
+
+unfoldable pub modeNumber : RtpInboundQueueMode → ℕ
+modeNumber Passthrough = 0
+modeNumber SortedQueue = 1

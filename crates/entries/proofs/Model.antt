@@ -7,10 +7,11 @@ use lib.ListN.{length}
 use Rattle.words.proofs.Ordered.{and-right}
 use Rattle.durations.specs.Seconds.{largest}
 use Rattle.rtp_packet.specs.Datagram.{LARGEST-PAYLOAD}
+use Rattle.rtp.specs.Opt.{atMost}
 use Rattle.model.specs.Lists.{some?, every?}
 use Rattle.model.specs.Records.{Entry, Gap}
 use Rattle.model.specs.Rules.{is}
-use Rattle.model.specs.Valid.{Bounds, atMost, byClock, notPassed, fieldsSound, entrySound}
+use Rattle.model.specs.Valid.{Bounds, byClock, notPassed, fieldsSound, entrySound}
 use Rattle.packet_gaps.proofs.Turns.{every-weaker}
 use Rattle.entries.specs.Entries.{fits}
 
@@ -23,7 +24,7 @@ sound-fits b gaps es s = every-weaker (entrySound b gaps) fits one es s
   where
     one : (e : Entry) → entrySound b gaps e ≡ true → fits e ≡ true
     one e f =
-        let a : Bool = atMost (b .highest) (e .number) in
+        let a : Bool = atMost (e .number) (b .highest) in
         let p : Bool = notPassed (b .passed) (e .number) in
         let m : Bool = not (some? (is (e .number)) gaps) in
         let t : Bool = leb (e .timestamp) largest in

@@ -1,4 +1,4 @@
-// 01's check 16 on the entries, and tidying: what every call does before anything else.
+// 01's check 16 on the entries, which every call makes first, and the zeros that an accepted call leaves behind the last entry.
 ghost use mathlib.Core.Path.{_≡_};
 ghost use mathlib.Core.Bool.{true};
 ghost use mathlib.Core.List.{List};
@@ -6,10 +6,10 @@ ghost use Prim.Native.Nat.{ℕ, _*_, _≤_};
 ghost use lib.ListN.{length};
 ghost use Rattle.words.specs.Blocks.{laid};
 ghost use Rattle.words.specs.Order.{ascends};
-ghost use Rattle.rtp.specs.Opt.{numberOf};
+ghost use Rattle.rtp.specs.Opt.{numberOf, atMost};
 ghost use Rattle.model.specs.Lists.{every?};
 ghost use Rattle.model.specs.Records.{gapNumbers};
-ghost use Rattle.model.specs.Valid.{atMost, byClock, fieldsSound, entriesSound};
+ghost use Rattle.model.specs.Valid.{byClock, fieldsSound, entriesSound};
 ghost use Rattle.model.specs.Storage.{ENTRY-WORDS, PAYLOAD-BYTES, GAP-WORDS, entryWords, payloadBytes, entriesOf, gapsOf};
 ghost use Rattle.packet_gaps.specs.Gaps.{bounds};
 ghost use Rattle.entries.specs.Entries.{fits};
@@ -22,7 +22,7 @@ use rtp::opt::Opt;
 use rtp::opt::OptNumber;
 
 fn at_most(highest: OptNumber, x: ExtendedSequenceNumber) -> bool
-    ensures { λ r. ⌜ r ≡ atMost (numberOf highest) (x .0) ⌝ }
+    ensures { λ r. ⌜ r ≡ atMost (x .0) (numberOf highest) ⌝ }
 {
     match highest {
         OptNumber::None => false,

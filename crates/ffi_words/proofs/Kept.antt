@@ -8,16 +8,16 @@ use Rattle.rtx_state.specs.declared.OptRtt.{OptRtt}
 use Rattle.rtx_state.specs.declared.OptRtt.the-variants as OptRtt
 use Rattle.config.specs.declared.RtpInboundQueueMode.{RtpInboundQueueMode}
 use Rattle.config.specs.declared.RtpInboundQueueMode.the-variants.{Passthrough, SortedQueue}
-use Rattle.config.specs.Mode.{modeOf}
+use Rattle.config.specs.Mode.{modeOf, modeNumber}
 use Rattle.model.specs.declared.LastReceived.{LastReceived}
 use Rattle.model.specs.declared.LastReceived.the-variants as LastReceived
 use Rattle.model.specs.declared.Config.{Config}
-use Rattle.ffi_words.specs.Words.{configReadable, readable, configOf, lastOf, returnedOf, rttOf, queueOf, sessionOf, flag, modeWord, configWords, lastWords, returnedWords, rttWords, wordsOf, Kept}
+use Rattle.ffi_words.specs.Words.{configReadable, readable, configOf, lastOf, returnedOf, rttOf, queueOf, sessionOf, flag, configWords, lastWords, returnedWords, rttWords, wordsOf, Kept}
 
 -- ---- each part
 
-mode-kept : (m : RtpInboundQueueMode) → modeOf (modeWord m) ≡ m
-unfolding modeOf modeWord
+mode-kept : (m : RtpInboundQueueMode) → modeOf (modeNumber m) ≡ m
+unfolding modeOf modeNumber
 mode-kept Passthrough = refl
 mode-kept SortedQueue = refl
 
@@ -47,8 +47,8 @@ config-kept c = rw (mode-kept (c .settings .mode), flag-kept (c .senders .«has_
 
 -- ---- each flag
 
-mode-reads : (m : RtpInboundQueueMode) → leb (modeWord m) 1 ≡ true
-unfolding modeWord
+mode-reads : (m : RtpInboundQueueMode) → leb (modeNumber m) 1 ≡ true
+unfolding modeNumber
 mode-reads Passthrough = refl
 mode-reads SortedQueue = refl
 

@@ -9,9 +9,7 @@ use Rattle.durations.specs.Seconds.{zero64}
 use Rattle.packet_loss.specs.Loss.{zero32}
 use Rattle.rtx_state.specs.declared.OptRtt.{OptRtt}
 use Rattle.rtx_state.specs.declared.OptRtt.the-variants as OptRtt
-use Rattle.config.specs.declared.RtpInboundQueueMode.{RtpInboundQueueMode}
-use Rattle.config.specs.declared.RtpInboundQueueMode.the-variants.{Passthrough, SortedQueue}
-use Rattle.config.specs.Mode.{modeOf}
+use Rattle.config.specs.Mode.{modeOf, modeNumber}
 use Rattle.model.specs.declared.Config.{Config}
 use Rattle.model.specs.declared.LastReceived.{LastReceived}
 use Rattle.model.specs.declared.LastReceived.the-variants as LastReceived
@@ -79,10 +77,6 @@ unfoldable pub flag : Bool → ℕ
 flag false = 0
 flag true = 1
 
-unfoldable pub modeWord : RtpInboundQueueMode → ℕ
-modeWord Passthrough = 0
-modeWord SortedQueue = 1
-
 unfoldable pub configWords : Config → ConfigWords
 configWords c =
     let set = c .settings in
@@ -96,7 +90,7 @@ configWords c =
       «max_gaps» = set .«max_gaps»;
       «clock_rate» = set .«clock_rate»;
       «max_nack_attempts» = set .«max_nack_attempts»;
-      mode = modeWord (set .mode);
+      mode = modeNumber (set .mode);
       «has_rtx» = flag (who .«has_rtx»);
       ssrc = who .ssrc .0;
       «rtx_ssrc» = who .«rtx_ssrc» .0;

@@ -1,5 +1,6 @@
 // A session and its settings written as words.
 ghost use mathlib.Core.Path.{_≡_};
+ghost use Rattle.config.specs.Mode.{modeNumber};
 ghost use Rattle.ffi_words.specs.Words as Words;
 ghost use Rattle.ffi_words.specs.Words.{flag};
 use super::ConfigWords;
@@ -17,7 +18,7 @@ use rtx_state::OptRtt;
 use rtx_state::RtxState;
 
 fn mode_word(mode: RtpInboundQueueMode) -> u32
-    ensures { λ r. ⌜ r ≡ Words.modeWord mode ⌝ }
+    ensures { λ r. ⌜ r ≡ modeNumber mode ⌝ }
 {
     match mode {
         RtpInboundQueueMode::Passthrough => 0,

@@ -1,9 +1,9 @@
--- Remembered numbers by place: the first of a number stands after all those that are apart from it, and those that are noted are pushed
+-- Remembered numbers by place: the first of a number stands after all those that are of other numbers, and those that are noted are pushed
 -- behind the others, but for the oldest beyond 1,024.
 use mathlib.Core.Path.{_≡_, refl, sym, ap, _∙_}
 use mathlib.Core.Bool.{Bool, true, false, cond, not}
 use mathlib.Core.List.{List, [], _∷_, _++_}
-use Prim.Native.Nat.{ℕ, suc, _+_, _*_, _-_, _≤_, _<_}
+use Prim.Native.Nat.{ℕ, suc, _+_, _*_, _≤_, _<_}
 use native.Mathlib.Omega.{arith}
 use lib.ListN.{length, take, drop, getD, replicate, drop-of-length-le}
 use borrow.Author.Tests.{eq-eqb, ne-eqb, le-leb, lt-leb}
@@ -22,7 +22,7 @@ use Rattle.model.specs.Storage.{GAP-WORDS, REMEMBERED-WORDS, rememberedWords, r
 use Rattle.model.proofs.Laid.{remembered-held, remembered-coded, length-rememberedOf, length-gapsOf}
 use Rattle.packet_gaps.proofs.Laws.{noGap, read-is}
 use Rattle.packet_gaps.proofs.Turns.{drop-next, leading-none, leading-more, leading-end}
-use Rattle.lost_nacked.specs.Remembered.{RememberedIn, apart}
+use Rattle.lost_nacked.specs.Remembered.{RememberedIn, another}
 
 -- ---- what is read
 
@@ -51,13 +51,13 @@ module _ (s : List ℕ) (n i : ℕ) (r : Remembered) (e : r ≡ rememberedOfWord
   next = drop-next noOne (rememberedOf s n) i inside ∙ ap (λ (y : Remembered). y ∷ drop (i + 1) (rememberedOf s n)) here
 
   module _ (x : ℕ) where
-    pub position-found : r .number ≡ x → length (leading (apart x) (drop i (rememberedOf s n))) ≡ 0
+    pub position-found : r .number ≡ x → length (leading (another x) (drop i (rememberedOf s n))) ≡ 0
     unfolding isOf
-    position-found f = leading-none noOne (rememberedOf s n) i inside (apart x) (ap (apart x) here ∙ rw (eq-eqb (r .number) x f))
+    position-found f = leading-none noOne (rememberedOf s n) i inside (another x) (ap (another x) here ∙ rw (eq-eqb (r .number) x f))
 
-    pub position-more : (r .number ≡ x → ⊥) → length (leading (apart x) (drop i (rememberedOf s n))) ≡ 1 + length (leading (apart x) (drop (i + 1) (rememberedOf s n)))
+    pub position-more : (r .number ≡ x → ⊥) → length (leading (another x) (drop i (rememberedOf s n))) ≡ 1 + length (leading (another x) (drop (i + 1) (rememberedOf s n)))
     unfolding isOf
-    position-more f = leading-more noOne (rememberedOf s n) i inside (apart x) (ap (apart x) here ∙ rw (ne-eqb (r .number) x f))
+    position-more f = leading-more noOne (rememberedOf s n) i inside (another x) (ap (another x) here ∙ rw (ne-eqb (r .number) x f))
 
   module _ (clock : ℕ) where
     pub sound-number : largest < r .number → every? (rememberedSound clock) (drop i (rememberedOf s n)) ≡ false
@@ -79,41 +79,41 @@ tidied s n h = tidied-laid remembered-coded n s h
 
 -- ---- `position` and `forget`
 
-pub position-end : (s : List ℕ) (n i x : ℕ) → n ≤ i → length (leading (apart x) (drop i (rememberedOf s n))) ≡ 0
-position-end s n i x h = leading-end (apart x) (rememberedOf s n) i (omega (arith, length-rememberedOf s n))
+pub position-end : (s : List ℕ) (n i x : ℕ) → n ≤ i → length (leading (another x) (drop i (rememberedOf s n))) ≡ 0
+position-end s n i x h = leading-end (another x) (rememberedOf s n) i (omega (arith, length-rememberedOf s n))
 
 module _ (x : ℕ) where
-  pub first-found : (rs : List Remembered) → length (leading (apart x) rs) < length rs
-      → (instantOf (keep (isOf x) rs) ≡ Some (getD rs (length (leading (apart x) rs)) noOne .nackedAt)) × (forgetFirst x rs ≡ cut (length (leading (apart x) rs)) 1 rs)
+  pub first-found : (rs : List Remembered) → length (leading (another x) rs) < length rs
+      → (instantOf (keep (isOf x) rs) ≡ Some (getD rs (length (leading (another x) rs)) noOne .nackedAt)) × (forgetFirst x rs ≡ cut (length (leading (another x) rs)) 1 rs)
   unfolding instantOf keep leading forgetFirst cut
   first-found [] h = absurd (omega arith)
   first-found (r ∷ rs) h = go (isOf x r) (first-found rs) h
     where
       k : ℕ
-      k = length (leading (apart x) rs)
+      k = length (leading (another x) rs)
 
       go : (b : Bool) → (k < length rs → (instantOf (keep (isOf x) rs) ≡ Some (getD rs k noOne .nackedAt)) × (forgetFirst x rs ≡ take k rs ++ drop (k + 1) rs))
-          → length (cond (not b) (r ∷ leading (apart x) rs) []) < suc (length rs)
-          → (instantOf (cond b (r ∷ keep (isOf x) rs) (keep (isOf x) rs)) ≡ Some (getD (r ∷ rs) (length (cond (not b) (r ∷ leading (apart x) rs) [])) noOne .nackedAt))
-          × (cond b rs (r ∷ forgetFirst x rs) ≡ take (length (cond (not b) (r ∷ leading (apart x) rs) [])) (r ∷ rs) ++ drop (length (cond (not b) (r ∷ leading (apart x) rs) []) + 1) (r ∷ rs))
+          → length (cond (not b) (r ∷ leading (another x) rs) []) < suc (length rs)
+          → (instantOf (cond b (r ∷ keep (isOf x) rs) (keep (isOf x) rs)) ≡ Some (getD (r ∷ rs) (length (cond (not b) (r ∷ leading (another x) rs) [])) noOne .nackedAt))
+          × (cond b rs (r ∷ forgetFirst x rs) ≡ take (length (cond (not b) (r ∷ leading (another x) rs) [])) (r ∷ rs) ++ drop (length (cond (not b) (r ∷ leading (another x) rs) []) + 1) (r ∷ rs))
       go true ih l = (refl, refl)
       go false ih l =
           let z : suc k + 1 ≡ suc (k + 1) = omega arith in
           let y = ih (omega arith) in
           (y .0, rw z (ap (λ (l : List Remembered). r ∷ l) (y .1)))
 
-  pub none-found : (rs : List Remembered) → length rs ≤ length (leading (apart x) rs) → (instantOf (keep (isOf x) rs) ≡ None) × (forgetFirst x rs ≡ rs)
+  pub none-found : (rs : List Remembered) → length rs ≤ length (leading (another x) rs) → (instantOf (keep (isOf x) rs) ≡ None) × (forgetFirst x rs ≡ rs)
   unfolding instantOf keep leading forgetFirst
   none-found [] h = (refl, refl)
   none-found (r ∷ rs) h = go (isOf x r) (none-found rs) h
     where
-      go : (b : Bool) → (length rs ≤ length (leading (apart x) rs) → (instantOf (keep (isOf x) rs) ≡ None) × (forgetFirst x rs ≡ rs))
-          → suc (length rs) ≤ length (cond (not b) (r ∷ leading (apart x) rs) [])
+      go : (b : Bool) → (length rs ≤ length (leading (another x) rs) → (instantOf (keep (isOf x) rs) ≡ None) × (forgetFirst x rs ≡ rs))
+          → suc (length rs) ≤ length (cond (not b) (r ∷ leading (another x) rs) [])
           → (instantOf (cond b (r ∷ keep (isOf x) rs) (keep (isOf x) rs)) ≡ None) × (cond b rs (r ∷ forgetFirst x rs) ≡ r ∷ rs)
       go true ih l = absurd (omega arith)
       go false ih l = let y = ih (omega arith) in (y .0, ap (λ (l : List Remembered). r ∷ l) (y .1))
 
-module _ (s : List ℕ) (n x k : ℕ) (m : RememberedIn s n) (e : k ≡ length (leading (apart x) (rememberedOf s n))) where
+module _ (s : List ℕ) (n x k : ℕ) (m : RememberedIn s n) (e : k ≡ length (leading (another x) (rememberedOf s n))) where
   module _ (h : k < n) where
     all-found : (instantOf (keep (isOf x) (rememberedOf s n)) ≡ Some (getD (rememberedOf s n) k noOne .nackedAt)) × (forgetFirst x (rememberedOf s n) ≡ cut k 1 (rememberedOf s n))
     all-found = rw e (first-found x (rememberedOf s n) (omega (arith, length-rememberedOf s n)))

@@ -20,5 +20,5 @@ abbrev pub remembered : Remembered → Records.Remembered
 remembered r = record { number = r .number .0; nackedAt = r .«nacked_at» }
 
 -- of another number than x
-abbrev pub apart : ℕ → Records.Remembered → Bool
-apart x r = not (isOf x r)
+abbrev pub another : ℕ → Records.Remembered → Bool
+another x r = not (isOf x r)

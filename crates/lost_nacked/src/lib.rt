@@ -11,7 +11,7 @@ ghost use Rattle.model.specs.Lists.{keep, leading, every?};
 ghost use Rattle.model.specs.Rules.{once, lostNackedAt, forgetFirst, MAX-LOST-NACKED, remember, rememberedAfter};
 ghost use Rattle.model.specs.Storage.{REMEMBERED-WORDS, GAP-WORDS, rememberedWords, rememberedOfWords, rememberedOf, gapsOf};
 ghost use Rattle.packet_gaps.specs.Gaps.{gap};
-ghost use Rattle.lost_nacked.specs.Remembered.{RememberedIn, remembered, apart};
+ghost use Rattle.lost_nacked.specs.Remembered.{RememberedIn, remembered, another};
 ghost use Rattle.model.specs.Valid.{rememberedSound};
 use packet_gaps::Gap;
 use rtp::ExtendedSequenceNumber;
@@ -45,7 +45,7 @@ pub fn read(s: &[u64], i: usize) -> Remembered
 // The place of the first with the number x, or n.
 fn position(s: &[u64], n: usize, x: ExtendedSequenceNumber) -> usize
     requires { ⌜ REMEMBERED-WORDS * n ≤ length (now s) ⌝ }
-    ensures { λ r. ⌜ r ≡ length (leading (apart (x .0)) (rememberedOf (now (s .entry)) n)) ⌝ }
+    ensures { λ r. ⌜ r ≡ length (leading (another (x .0)) (rememberedOf (now (s .entry)) n)) ⌝ }
 {
     let mut i = 0;
     while i < n {

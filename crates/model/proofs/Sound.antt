@@ -18,11 +18,11 @@ use Rattle.config.specs.declared.RtpInboundQueueMode.{RtpInboundQueueMode}
 use Rattle.config.specs.declared.RtpInboundQueueMode.the-variants.{Passthrough, SortedQueue}
 use Rattle.model.specs.declared.Counters.{Counters}
 use Rattle.model.specs.declared.Queue.{Queue}
-use Rattle.rtp.specs.Opt.{numberOf}
+use Rattle.rtp.specs.Opt.{numberOf, atMost}
 use Rattle.model.specs.Records.{Entry, Gap, Remembered, State, highestOf}
 use Rattle.model.specs.Rules.{MAX-LOST-NACKED}
-use Rattle.model.specs.Push.{atOrBelow, passed}
-use Rattle.model.specs.Valid.{atMost, under, byClock, lastSound, returnedSound}
+use Rattle.model.specs.Push.{passed}
+use Rattle.model.specs.Valid.{under, byClock, lastSound, returnedSound}
 use Rattle.model.specs.Table.{configValid}
 use Rattle.model.proofs.Lists.{Each, Rising}
 
@@ -53,12 +53,12 @@ unfoldable pub By : ℕ → Opt → Type 0
 By clock None = Unit {0}
 By clock (Some i) = i ≤ clock
 
-pub reached-of : (h : Opt) (n : ℕ) → T (atMost h n) → Reached h n
+pub reached-of : (h : Opt) (n : ℕ) → T (atMost n h) → Reached h n
 unfolding atMost Reached
 reached-of None n t = t
 reached-of (Some h) n t = leb→le n h t
 
-pub reached-to : (h : Opt) (n : ℕ) → Reached h n → T (atMost h n)
+pub reached-to : (h : Opt) (n : ℕ) → Reached h n → T (atMost n h)
 unfolding atMost Reached
 reached-to None n t = t
 reached-to (Some h) n t = le→leb n h t
@@ -74,13 +74,13 @@ under-to None n t = t
 under-to (Some h) n t = lt→ltb n h t
 
 pub ahead-of : (mode : RtpInboundQueueMode) (r : Opt) (n : ℕ) → T (not (passed mode r n)) → Ahead mode r n
-unfolding passed atOrBelow Ahead
+unfolding passed atMost Ahead
 ahead-of Passthrough r n t = tt
 ahead-of SortedQueue None n t = tt
 ahead-of SortedQueue (Some m) n t = nleb→lt n m t
 
 pub ahead-to : (mode : RtpInboundQueueMode) (r : Opt) (n : ℕ) → Ahead mode r n → T (not (passed mode r n))
-unfolding passed atOrBelow Ahead
+unfolding passed atMost Ahead
 ahead-to Passthrough r n t = tt
 ahead-to SortedQueue None n t = tt
 ahead-to SortedQueue (Some m) n t = not-T (leb n m) (λ u. absurd (omega (arith, leb→le n m u)))

@@ -8,7 +8,7 @@ use lib.Dec.{T, lit<, lit≤}
 use borrow.Author.Tests.{eq-eqb}
 use lib.Ieee.Bits.{is-true}
 use lib.Ieee.Fits.{and-l, and-r, and-i}
-use Rattle.refusals.specs.Refusals.{SETTINGS, SESSION}
+use Rattle.refusals.specs.Refusals.{SETTINGS, SESSION, refuseIf}
 use Rattle.refusals.proofs.Laws.{orElse-none}
 use Rattle.jitter.proofs.Range.{new-in as new-jitter}
 use Rattle.packet_loss.proofs.Range.{new-in as new-loss}
@@ -19,7 +19,7 @@ use Rattle.model.specs.Records.{State, newQueue, newState, highestOf}
 use Rattle.model.specs.Valid.{lastSound, sound}
 use Rattle.model.specs.Storage.{Stored, lengthsFit, parse, write}
 use Rattle.model.specs.Calls.{Call, media, repair, poll, pollNack, timeoutReceive, timeoutNack, rtxStats, highestReceived, taken}
-use Rattle.model.specs.Table.{refuseIf, configValid, sessionSound, sessionRefusal, callRefusal, refusal, openingRefusal}
+use Rattle.model.specs.Table.{configValid, sessionSound, sessionRefusal, callRefusal, refusal, openingRefusal}
 use Rattle.model.specs.Did.{accepted, did}
 use Rattle.model.proofs.Laid.{Fits, parse-write, lengths-write}
 use Rattle.model.proofs.Lists.{not-not, Each, none, each-imp, empty}

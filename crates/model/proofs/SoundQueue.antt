@@ -8,7 +8,7 @@ use lib.Dec.{T, leb, ltb, leb→le, le→leb, nltb→le, lit<}
 use lib.Ieee.Fits.{and-l, and-r, and-i}
 use Rattle.rtp.specs.declared.opt.Opt.{Opt}
 use Rattle.rtp.specs.declared.opt.Opt.the-variants.{None, Some}
-use Rattle.refusals.specs.Refusals.{CLOCK, COUNT}
+use Rattle.refusals.specs.Refusals.{CLOCK, COUNT, refuseIf}
 use Rattle.durations.specs.Seconds.{largest}
 use Rattle.jitter.specs.declared.Jitter.{Jitter}
 use Rattle.jitter.specs.Interarrival.{jitterInRange}
@@ -30,7 +30,7 @@ use Rattle.model.specs.Rules.{Place, first, near, far, fills, other, sam
 use Rattle.model.specs.Push.{jitterAfter, heard, lastAfter, countDropped}
 use Rattle.model.specs.Poll.{countLost, lose}
 use Rattle.model.specs.Valid.{lastSound}
-use Rattle.model.specs.Table.{refuseIf, clockRefusal, countRefusal}
+use Rattle.model.specs.Table.{clockRefusal, countRefusal}
 use Rattle.model.proofs.Lists.{by-nor, Each, each-imp, each-not-of-some}
 use Rattle.model.proofs.Sound.{Under, CountersIn, RtxIn, QueueIn}
 use Rattle.model.proofs.SoundTest.{rate-of}
@@ -84,12 +84,12 @@ under-fits clock (LastReceived.Some r) t u =
 
 -- ---- jitter and round trip
 
-jitter-after : (clock : ℕ) {now ts rate : ℕ} (l : LastReceived) (j : Jitter) → 1 ≤ rate → rate ≤ 1000000 → now ≤ largest → ts ≤ largest → T (lastSound clock l) → T (jitterInRange rate j) → T (jitterInRange rate (jitterAfter now ts l j))
+jitter-after : (clock : ℕ) {now ts rate : ℕ} (l : LastReceived) (j : Jitter) → rate ≤ 1000000 → now ≤ largest → ts ≤ largest → T (lastSound clock l) → T (jitterInRange rate j) → T (jitterInRange rate (jitterAfter now ts l j))
 unfolding jitterAfter lastSound
-jitter-after clock LastReceived.None j some small a b t h = h
-jitter-after clock {now} {ts} {rate} (LastReceived.Some r) j some small a b t h =
+jitter-after clock LastReceived.None j small a b t h = h
+jitter-after clock {now} {ts} {rate} (LastReceived.Some r) j small a b t h =
     let c = leb→le (r .timestamp .0) largest (and-l (leb (r .timestamp .0) largest) (leb (r .number .0) largest) (and-r (leb (r .instant) clock) (leb (r .timestamp .0) largest && leb (r .number .0) largest) t)) in
-    updated-in rate some (omega arith) j h now ts (r .instant) (r .timestamp .0) (omega arith) (omega arith) (omega arith)
+    updated-in rate (omega arith) j h now ts (r .instant) (r .timestamp .0) (omega arith) (omega arith) (omega arith)
 
 pub sample-in : {now : ℕ} (instant : Opt) (rtt : OptRtt) → now ≤ largest → T (optRttInRange rtt) → T (optRttInRange (sampledAt now instant rtt))
 unfolding sampledAt
@@ -137,4 +137,4 @@ pub heard-in : {now ts : ℕ} (q : Queue) → QueueIn q → q .clock ≤ now →
 unfolding heard
 heard-in q h later a b =
     let rate = rate-of (q .config) (h .config-in) in
-    jitter-set (clock-set h later) (jitter-after (q .clock) (q .last) (q .jitter) (rate .some) (rate .small) a b (h .last-in) (h .jitter-in))
+    jitter-set (clock-set h later) (jitter-after (q .clock) (q .last) (q .jitter) (rate .small) a b (h .last-in) (h .jitter-in))

@@ -20,10 +20,10 @@ use Rattle.model.specs.declared.Config.{Config}
 use Rattle.model.specs.declared.Counters.{Counters}
 use Rattle.model.specs.declared.Queue.{Queue}
 use Rattle.model.specs.Lists.{some?, every?}
-use Rattle.rtp.specs.Opt.{numberOf}
+use Rattle.rtp.specs.Opt.{numberOf, atMost}
 use Rattle.model.specs.Records.{Entry, Gap, Remembered, State, entryNumbers, gapNumbers, highestOf}
 use Rattle.model.specs.Rules.{is, MAX-LOST-NACKED}
-use Rattle.model.specs.Valid.{Bounds, boundsOf, atMost, under, notPassed, byClock, gapSound, gapsSound, fieldsSound, entrySound, entriesSound, rememberedSound, listsSound, lastSound, returnedSound, countersSound, queueSound, countsFit, sound}
+use Rattle.model.specs.Valid.{Bounds, boundsOf, under, notPassed, byClock, gapSound, gapsSound, fieldsSound, entrySound, entriesSound, rememberedSound, listsSound, lastSound, returnedSound, countersSound, queueSound, countsFit, sound}
 use Rattle.model.specs.Push.{passed}
 use Rattle.model.specs.Storage.{entryPlaces}
 use Rattle.model.specs.Table.{configValid}
@@ -145,13 +145,13 @@ module _ (q : Queue) where
   entry-of : (gaps : List Gap) (e : Entry) → T (entrySound (boundsOf q) gaps e) → EntryIn (q .clock) highest mode returned e × Apart gaps (e .number)
   unfolding fieldsSound boundsOf notPassed passed allOf Parts
   entry-of gaps e t =
-      let p = parts (atMost highest (e .number)) (entryTests gaps e) t in
+      let p = parts (atMost (e .number) highest) (entryTests gaps e) t in
       (record { reached = reached-of _ _ (p .0); ahead = ahead-of _ _ _ (p .1 .0); timestamp-fits = leb→le _ _ (p .1 .1 .1 .0); came-by = by-of _ _ (p .1 .1 .1 .1 .0); payload-fits = leb→le _ _ (p .1 .1 .1 .1 .1) }, apart-of-not-some (e .number) gaps (p .1 .1 .0))
 
   entry-to : (gaps : List Gap) (e : Entry) → EntryIn (q .clock) highest mode returned e × Apart gaps (e .number) → T (entrySound (boundsOf q) gaps e)
   unfolding fieldsSound boundsOf notPassed passed allOf Parts
   entry-to gaps e (h, a) =
-      whole (atMost highest (e .number)) (entryTests gaps e)
+      whole (atMost (e .number) highest) (entryTests gaps e)
       (reached-to _ _ (h .reached), (ahead-to _ _ _ (h .ahead), (not-some-of-apart (e .number) gaps a, (le→leb _ _ (h .timestamp-fits), (by-to _ _ (h .came-by), le→leb _ _ (h .payload-fits))))))
 
   remembered-of : (r : Remembered) → T (rememberedSound (q .clock) r) → RememberedIn (q .clock) r

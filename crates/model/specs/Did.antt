@@ -1,4 +1,5 @@
--- What a call on stored bytes does, refused or not: the definition that every public contract equates its answer, session and lent bytes with.
+-- What a call on stored bytes does, refused or not: the definition that the contracts of the opening and of the eight calls equate
+-- answer, session and lent bytes with.
 use mathlib.Core.Bool.{cond}
 use mathlib.Core.List.{List}
 use Prim.Native.Nat.{ℕ}

@@ -2,9 +2,8 @@
 use mathlib.Core.Bool.{Bool, true, false, cond}
 use mathlib.Core.List.{List, [], _∷_, map}
 use Prim.Native.Nat.{ℕ, _+_, _-_}
-use lib.Dec.{leb}
 use lib.ListN.{length, take, drop}
-use Rattle.rtp.specs.Opt.{optMin}
+use Rattle.rtp.specs.Opt.{atMost, optMin}
 use Rattle.rtp.specs.declared.opt.Opt.{Opt}
 use Rattle.rtp.specs.declared.opt.Opt.the-variants.{None, Some}
 use Rattle.rtx_state.specs.Repair.{rtxStats}
@@ -49,16 +48,12 @@ drained now s =
 
 -- ---- `poll`
 
--- whether the limit has reached the timestamp; "a negative limit hands out nothing"
-unfoldable pub reaches : ℕ → Opt → Bool
-reaches timestamp None = false
-reaches timestamp (Some limit) = leb timestamp limit
-
+-- whether the limit has reached the timestamp; there is none where it is negative: "a negative limit hands out nothing"
 unfoldable pub readyIn : RtpInboundQueueMode → Settings → LastReceived → (now timestamp : ℕ) → Bool
 readyIn Passthrough set last now timestamp = true
 readyIn SortedQueue set LastReceived.None now timestamp = false
 readyIn SortedQueue set (LastReceived.Some r) now timestamp =
-    reaches timestamp (maxTimestamp (r .instant) (r .timestamp .0) (set .«clock_rate») (targetDelay set) now)
+    atMost timestamp (maxTimestamp (r .instant) (r .timestamp .0) (set .«clock_rate») (targetDelay set) now)
 
 -- whether an entry of the timestamp goes out where it is the front one
 abbrev pub ready : Queue → (now timestamp : ℕ) → Bool

@@ -1,11 +1,11 @@
 -- 000's `push` and `push_rtx`; 01, "Entry", "Gap", "Repair state", "Jitter" and "Loss": what a media packet and a repair make of a session.
 -- The bytes are a datagram that was not refused.
-use mathlib.Core.Bool.{Bool, false, cond}
+use mathlib.Core.Bool.{Bool, cond}
 use mathlib.Core.List.{List, [], _∷_}
 use Prim.Native.Nat.{ℕ, _+_}
 use lib.Dec.{leb}
 use lib.ListN.{length}
-use Rattle.rtp.specs.Opt.{numberOf}
+use Rattle.rtp.specs.Opt.{numberOf, atMost}
 use Rattle.rtp.specs.declared.opt.Opt.{Opt}
 use Rattle.rtp.specs.declared.opt.Opt.the-variants.{None, Some}
 use Rattle.rtp_packet.specs.Header.{sequenceNumber, timestamp, marker, payloadOf}
@@ -27,10 +27,6 @@ use Rattle.model.specs.Rules.{extended, is, without, gapsFrom, Place, fi
 
 -- ---- what both share
 
-unfoldable pub atOrBelow : ℕ → Opt → Bool
-atOrBelow n None = false
-atOrBelow n (Some m) = leb n m
-
 -- in sorted mode the last returned
 unfoldable pub passedOf : RtpInboundQueueMode → Opt → Opt
 passedOf Passthrough returned = None
@@ -39,7 +35,7 @@ passedOf SortedQueue returned = returned
 -- "in sorted mode nothing at or below the last returned number is" queued
 unfoldable pub passed : RtpInboundQueueMode → Opt → ℕ → Bool
 unfolding passedOf
-passed mode returned n = atOrBelow n (passedOf mode returned)
+passed mode returned n = atMost n (passedOf mode returned)
 
 -- the number and the timestamp of a packet, extended by those of the last media packet
 unfoldable pub extendedNumber : Queue → ℕ → ℕ

@@ -6,7 +6,7 @@ use Prim.Native.Nat.{ℕ, zero, suc, _+_, _*_, _/_, _%_}
 use lib.Dec.{eqb}
 use lib.ListN.{length, take, getD}
 use Rattle.words.specs.Words.{padded}
-use Rattle.words.specs.Blocks.{blocks, flat}
+use Rattle.words.specs.Blocks.{blocks, laid}
 use Rattle.rtp.specs.declared.opt.Opt.{Opt}
 use Rattle.rtp.specs.declared.opt.Opt.the-variants.{None, Some}
 use Rattle.rtp_packet.specs.Datagram.{LARGEST-PAYLOAD}
@@ -42,15 +42,18 @@ abbrev pub REMEMBERED-WORDS : ℕ
 REMEMBERED-WORDS = 2
 
 -- "Repairs may raise the count to 2 · D"
+abbrev pub placesFor : ℕ → ℕ
+placesFor depth = 2 * depth
+
 abbrev pub entryPlaces : Settings → ℕ
-entryPlaces set = 2 * set .«max_entries»
+entryPlaces set = placesFor (set .«max_entries»)
 
 -- the lengths of the slices, by D and G
 abbrev pub entriesLength : ℕ → ℕ
-entriesLength depth = ENTRY-WORDS * (2 * depth)
+entriesLength depth = ENTRY-WORDS * placesFor depth
 
 abbrev pub payloadsLength : ℕ → ℕ
-payloadsLength depth = PAYLOAD-BYTES * (2 * depth)
+payloadsLength depth = PAYLOAD-BYTES * placesFor depth
 
 abbrev pub gapsLength : ℕ → ℕ
 gapsLength gaps = GAP-WORDS * gaps
@@ -124,19 +127,19 @@ rememberedOf words n = map rememberedOfWords (blocks REMEMBERED-WORDS words n)
 
 unfoldable pub entriesLaid : ℕ → List Entry → List ℕ
 unfolding entryWords
-entriesLaid places l = padded (ENTRY-WORDS * places) (flat (map entryWords l))
+entriesLaid places l = laid entryWords (ENTRY-WORDS * places) l
 
 unfoldable pub payloadsLaid : ℕ → List Entry → List ℕ
 unfolding payloadBytes
-payloadsLaid places l = padded (PAYLOAD-BYTES * places) (flat (map payloadBytes l))
+payloadsLaid places l = laid payloadBytes (PAYLOAD-BYTES * places) l
 
 unfoldable pub gapsLaid : ℕ → List Gap → List ℕ
 unfolding gapWords
-gapsLaid places l = padded (GAP-WORDS * places) (flat (map gapWords l))
+gapsLaid places l = laid gapWords (GAP-WORDS * places) l
 
 unfoldable pub rememberedLaid : List Remembered → List ℕ
 unfolding rememberedWords
-rememberedLaid l = padded (REMEMBERED-WORDS * MAX-LOST-NACKED) (flat (map rememberedWords l))
+rememberedLaid l = laid rememberedWords rememberedLength l
 
 -- ---- a session
 

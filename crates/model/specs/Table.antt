@@ -4,7 +4,7 @@ use mathlib.Core.List.{List, [], _∷_, _++_}
 use Prim.Native.Nat.{ℕ, suc, _+_, _-_}
 use lib.Dec.{leb, ltb}
 use lib.ListN.{length}
-use Rattle.refusals.specs.Refusals.{SETTINGS, CLOCK, NO-RTX, NO-MEDIA, GAPS-FULL, ENTRIES-FULL, COUNT, OUTPUT, SESSION, orElse}
+use Rattle.refusals.specs.Refusals.{SETTINGS, CLOCK, NO-RTX, NO-MEDIA, GAPS-FULL, ENTRIES-FULL, COUNT, OUTPUT, SESSION, refuseIf, orElse}
 use Rattle.durations.specs.Seconds.{largest}
 use Rattle.config.specs.declared.Settings.{Settings}
 use Rattle.config.specs.Valid.{settingsValid, sendersValid}
@@ -25,10 +25,6 @@ use Rattle.model.specs.Poll.{drained, goingOut, lostUnder, dueGaps}
 use Rattle.model.specs.Valid.{sound}
 use Rattle.model.specs.Storage.{Storage, Stored, lengthsFit, entryPlaces, parse}
 use Rattle.model.specs.Calls.{Call, media, repair, poll, pollNack, timeoutReceive, timeoutNack, rtxStats, highestReceived}
-
--- the number, where the test is true
-unfoldable pub refuseIf : Bool → ℕ → ℕ
-refuseIf t number = cond t number 0
 
 -- 1
 unfoldable pub configValid : Config → Bool

@@ -18,10 +18,10 @@ use Rattle.model.specs.declared.LastReceived.the-variants as LastReceive
 use Rattle.model.specs.declared.Counters.{Counters}
 use Rattle.model.specs.declared.Queue.{Queue}
 use Rattle.model.specs.Lists.{some?, every?}
-use Rattle.rtp.specs.Opt.{numberOf}
+use Rattle.rtp.specs.Opt.{numberOf, atMost}
 use Rattle.model.specs.Records.{Entry, Gap, Remembered, State, entryNumbers, gapNumbers, highestOf}
 use Rattle.model.specs.Rules.{is, MAX-LOST-NACKED}
-use Rattle.model.specs.Push.{atOrBelow, passedOf}
+use Rattle.model.specs.Push.{passedOf}
 use Rattle.model.specs.Storage.{entryPlaces}
 
 -- what the numbers and instants of the lists are held against
@@ -36,11 +36,6 @@ unfoldable pub boundsOf : Queue → Bounds
 unfolding passedOf
 boundsOf q = record { passed = passedOf (q .config .settings .mode) (numberOf (q .returned)); highest = highestOf (q .last); clock = q .clock }
 
--- not "above the highest", nor "before any media packet"
-unfoldable pub atMost : Opt → ℕ → Bool
-atMost None n = false
-atMost (Some h) n = leb n h
-
 -- a gap is not "at the highest" either
 unfoldable pub under : Opt → ℕ → Bool
 under None n = false
@@ -48,7 +43,7 @@ under (Some h) n = ltb n h
 
 -- "in sorted mode not above the last returned" is damage
 unfoldable pub notPassed : Opt → ℕ → Bool
-notPassed passed n = not (atOrBelow n passed)
+notPassed passed n = not (atMost n passed)
 
 -- none, or not after the clock's
 unfoldable pub byClock : ℕ → Opt → Bool
@@ -65,7 +60,7 @@ gapsSound b gaps = ascends (gapNumbers gaps) && every? (gapSound b) gaps
 -- `lastSound` keeps within 2^52 − 1.
 unfoldable pub fieldsSound : Bounds → (missing : Bool) (number timestamp : ℕ) → Opt → (size : ℕ) → Bool
 fieldsSound b missing number timestamp arrival size =
-    atMost (b .highest) number
+    atMost number (b .highest)
     && (notPassed (b .passed) number
     && (not missing
     && (leb timestamp largest
@@ -92,7 +87,7 @@ lastSound clock (LastReceived.Some r) = leb (r .instant) clock && (leb (r .times
 
 unfoldable pub returnedSound : Opt → Opt → Bool
 returnedSound highest None = true
-returnedSound highest (Some n) = atMost highest n
+returnedSound highest (Some n) = atMost n highest
 
 unfoldable pub countersSound : Counters → Bool
 countersSound c = leb (c .dropped) largest && (leb (c .received) largest && (leb (c .bytes) largest && leb (c .lost) largest))

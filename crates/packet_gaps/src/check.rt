@@ -1,4 +1,4 @@
-// 01's check 16 on the gaps, and tidying: what every call does before anything else.
+// 01's check 16 on the gaps, which every call makes first, and the zeros that an accepted call leaves behind the last gap.
 ghost use mathlib.Core.Path.{_≡_};
 ghost use Prim.Native.Nat.{_*_, _≤_};
 ghost use lib.ListN.{length};

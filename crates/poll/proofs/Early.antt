@@ -8,12 +8,12 @@ use lib.Dec.{ltb}
 use lib.ListN.{length}
 use borrow.Author.Tests.{ltb-false}
 use Rattle.durations.specs.Seconds.{largest}
-use Rattle.refusals.specs.Refusals.{OUTPUT, orElse}
-use Rattle.refusals.proofs.Laws.{orElse-first, orElse-second, orElse-none, passes}
+use Rattle.refusals.specs.Refusals.{OUTPUT, refuseIf, orElse}
+use Rattle.refusals.proofs.Laws.{orElse-first, orElse-second, orElse-none, passes-last}
 use Rattle.model.specs.Storage.{Stored, parse}
 use Rattle.model.specs.Calls as Calls
 use Rattle.model.specs.Calls.{Call, outputOf}
-use Rattle.model.specs.Table.{refuseIf, sessionSound, sessionRefusal, outputRefusal, clockRefusal, callRefusal, refusal}
+use Rattle.model.specs.Table.{sessionSound, sessionRefusal, outputRefusal, clockRefusal, callRefusal, refusal}
 use Rattle.model.specs.Did.{did, accepted}
 use Rattle.model.proofs.SoundQueue.{clock-of}
 use Rattle.model.specs.Contract.{Does}
@@ -40,7 +40,7 @@ module _ (m : Stored) (needed now : ℕ) (out : List ℕ) (r : ℕ) (e : r ≡ e
 
   pub is-room : needed ≤ length out
   unfolding outputRefusal refuseIf
-  is-room = ltb-false (length out) needed (passes (ltb (length out) needed) OUTPUT 0 (omega arith) (none .1) .0)
+  is-room = ltb-false (length out) needed (passes-last (ltb (length out) needed) OUTPUT (omega arith) (none .1))
 
   pub is-timely : (m .session .queue .clock ≤ now) × (now ≤ largest)
   is-timely = clock-of (m .session .queue) now (none .2)

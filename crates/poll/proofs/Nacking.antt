@@ -8,8 +8,8 @@ use lib.ListN.{length, drop, length-map}
 use Rattle.words.specs.Words.{over}
 use Rattle.words.specs.Blocks.{laid}
 use Rattle.words.proofs.Ordered.{and-right}
-use Rattle.refusals.specs.Refusals.{COUNT, orElse}
-use Rattle.refusals.proofs.Laws.{orElse-first, orElse-second, orElse-none, passes}
+use Rattle.refusals.specs.Refusals.{COUNT, refuseIf, orElse}
+use Rattle.refusals.proofs.Laws.{orElse-first, orElse-second, orElse-none, passes-last}
 use Rattle.durations.specs.Seconds.{largest}
 use Rattle.config.specs.declared.Settings.{Settings}
 use Rattle.config.specs.declared.NackTimings.{NackTimings}
@@ -21,7 +21,7 @@ use Rattle.model.specs.Rules.{due, nackDue, truncated, full, givenUp, notGivenU
 use Rattle.model.specs.Poll.{lose, drained, timingsOf, dueGaps, nackNumbers, nackAll, afterPollNack}
 use Rattle.model.specs.Storage.{Stored, GAP-WORDS, gapWords, gapsOf, parse, write}
 use Rattle.model.specs.Calls.{Answer, pollNack, refused, taken, answered, outputOf, outputAfter, nackAnswer}
-use Rattle.model.specs.Table.{refuseIf, sessionSound, outputRefusal, clockRefusal, countRefusal, nackCountRefusal, nacksRefusal, pollNackRefusal, callRefusal}
+use Rattle.model.specs.Table.{sessionSound, outputRefusal, clockRefusal, countRefusal, nackCountRefusal, nacksRefusal, pollNackRefusal, callRefusal}
 use Rattle.model.specs.Did.{accepted}
 use Rattle.model.proofs.Laid.{length-entriesOf, length-rememberedOf}
 use Rattle.packet_gaps.specs.Gaps.{GapsIn, instantsFit, Small}
@@ -186,7 +186,7 @@ module _ (now : ℕ) (m : Stored) (h : sessionSound m ≡ true) (e p g r : List 
         small = small;
         lost-fits = lost-in m (k .checked);
         instants = ap (every? instantsFit) (k .gaps-are) ∙ instants m (k .checked) c;
-        none-full = ap (λ (l : List Gap). some? full (dueGaps now q′ l)) (k .gaps-are) ∙ passes (some? full (dueGaps now q′ (parse m .gaps))) COUNT 0 (omega arith) (orElse-none _ _ z .1) .0;
+        none-full = ap (λ (l : List Gap). some? full (dueGaps now q′ l)) (k .gaps-are) ∙ passes-last (some? full (dueGaps now q′ (parse m .gaps))) COUNT (omega arith) (orElse-none _ _ z .1);
       }
 
 module _ (now : ℕ) (m : Stored) (out : List ℕ) where

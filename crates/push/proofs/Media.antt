@@ -12,7 +12,7 @@ use Rattle.words.specs.Blocks.{laid}
 use Rattle.words.specs.Order.{ascends}
 use Rattle.rtp.specs.declared.opt.Opt.{Opt}
 use Rattle.durations.specs.Seconds.{largest}
-use Rattle.refusals.specs.Refusals.{GAPS-FULL, orElse}
+use Rattle.refusals.specs.Refusals.{GAPS-FULL, refuseIf, orElse}
 use Rattle.refusals.proofs.Laws.{orElse-none}
 use Rattle.config.specs.declared.Settings.{Settings}
 use Rattle.model.specs.declared.Queue.{Queue}
@@ -21,7 +21,7 @@ use Rattle.model.specs.Records.{Entry, Gap, State, gapNumbers, highestOf}
 use Rattle.model.specs.Rules.{is, without, gapsFrom, fresh, Place, near, waits, between, gapsAfter, overfull}
 use Rattle.model.specs.Push.{insertSorted, mediaPlace, heard, countReceived, queueDropped, queueQueued, queuePushedOut, afterQueued, afterDropped, frontOut, withinDepth, afterPlaced}
 use Rattle.model.specs.Storage.{Stored, GAP-WORDS, entryWords, payloadBytes, gapWords, entryPlaces, entriesOf, gapsOf, entriesLaid, payloadsLaid, gapsLaid, rememberedLaid, parse, write}
-use Rattle.model.specs.Table.{mediaValues, tooManyGaps, countRefusal, refuseIf, packetRefusal}
+use Rattle.model.specs.Table.{mediaValues, tooManyGaps, countRefusal, packetRefusal}
 use Rattle.model.proofs.Lists.{Each, each-first, each-rest, each-imp, each-map, each-following, by-nand, Rising, empty, rising-keep, rising-append, rising-map, rising-following, ascends-of-rising, length-keep, length-insert}
 use Rattle.model.proofs.Laid.{parse-entries, gap-wide, length-words, gapsOf-laid, length-entriesOf, length-gapsOf, length-rememberedOf}
 use Rattle.model.proofs.Sound.{Under}

@@ -10,7 +10,7 @@ use borrow.Author.Tests.{eq-eqb, ne-eqb}
 use Rattle.words.specs.Blocks.{laid}
 use Rattle.rtp.specs.declared.opt.Opt.{Opt}
 use Rattle.rtp.specs.declared.opt.Opt.the-variants.{None, Some}
-use Rattle.refusals.specs.Refusals.{ENTRIES-FULL, orElse}
+use Rattle.refusals.specs.Refusals.{ENTRIES-FULL, refuseIf, orElse}
 use Rattle.refusals.proofs.Laws.{orElse-none}
 use Rattle.rtp_packet.specs.Datagram.{LARGEST-PAYLOAD}
 use Rattle.rtx_state.specs.Repair.{recordTooLate, recordInTime}
@@ -24,7 +24,7 @@ use Rattle.model.specs.Push.{passed, insertSorted, Fate, tooLate, recovered, re
 use Rattle.model.specs.Storage.{Stored, ENTRY-WORDS, PAYLOAD-BYTES, arrivalWord, entryWords, payloadBytes, gapWords, rememberedWords, entryPlaces, entriesOf, gapsOf, rememberedOf, entriesLaid, payloadsLaid, gapsLaid, rememberedLaid, parse, write}
 use Rattle.model.specs.Calls as Calls
 use Rattle.model.specs.Calls.{Answer}
-use Rattle.model.specs.Table.{countRefusal, refuseIf, fateValues, noPlace, fateRefusal, refusalFor, sessionSound}
+use Rattle.model.specs.Table.{countRefusal, fateValues, noPlace, fateRefusal, refusalFor, sessionSound}
 use Rattle.model.proofs.Lists.{length-insert}
 use Rattle.model.proofs.Laid.{length-entriesOf, length-rememberedOf}
 use Rattle.model.proofs.SoundQueue.{not-refused}

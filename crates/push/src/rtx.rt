@@ -5,14 +5,14 @@ ghost use mathlib.Core.List.{List, []};
 ghost use Prim.Native.Nat.{ℕ, _*_, _≤_, _<_};
 ghost use lib.ListN.{length};
 ghost use Rattle.words.specs.Order.{ascends};
-ghost use Rattle.refusals.specs.Refusals.{ENTRIES-FULL};
+ghost use Rattle.refusals.specs.Refusals.{ENTRIES-FULL, refuseIf};
 ghost use Rattle.durations.specs.Seconds.{largest};
 ghost use Rattle.rtp_packet.specs.Datagram.{LARGEST-PAYLOAD, LARGEST-REPAIR};
 ghost use Rattle.model.specs.Records as Records;
 ghost use Rattle.model.specs.Push as Push;
 ghost use Rattle.model.specs.Storage.{GAP-WORDS, gapsOf, parse, write};
 ghost use Rattle.model.specs.Calls.{repair, repaired};
-ghost use Rattle.model.specs.Table.{sessionSound, refuseIf, noPlace, fateRefusal};
+ghost use Rattle.model.specs.Table.{sessionSound, noPlace, fateRefusal};
 ghost use Rattle.entries.specs.Entries.{entry};
 ghost use Rattle.session.specs.Place as Spec;
 ghost use Rattle.push.specs.Answers.{repairAnswer};
@@ -67,7 +67,7 @@ fn repair_fate(q: Queue, gaps: &[u64], n: usize, x: ExtendedSequenceNumber) -> F
     Fate::Redundant
 }
 
-// 13
+// 13: "repair would be inserted with 2 · D entries held".
 fn entries_refusal(places: usize, n: usize, fate: Fate) -> u64
     ensures { λ r. ⌜ r ≡ refuseIf (noPlace places n (Spec.fate fate)) ENTRIES-FULL ⌝ }
 {

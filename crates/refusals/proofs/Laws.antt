@@ -5,7 +5,7 @@ use Prim.Native.Nat.{ℕ, _<_}
 use native.Mathlib.Omega.{arith}
 use lib.Dec.{eqb}
 use borrow.Author.Tests.{eq-eqb, ne-eqb, eqb-true, eqb-false}
-use Rattle.refusals.specs.Refusals.{orElse}
+use Rattle.refusals.specs.Refusals.{refuseIf, orElse}
 
 pub orElse-second : (a b : ℕ) → a ≡ 0 → orElse a b ≡ b
 unfolding orElse
@@ -23,7 +23,12 @@ orElse-none a b = by-test (eqb a 0) refl
     by-test true e h = (eqb-true a 0 e, h)
     by-test false e h = absurd (eqb-false a 0 e h)
 
--- a check of a chain that did not refuse, k being its number and r the rest of the chain
-pub passes : (t : Bool) (k r : ℕ) → 0 < k → cond t k r ≡ 0 → (t ≡ false) × (r ≡ 0)
-passes true k r h e = absurd (omega arith)
-passes false k r h e = (refl, e)
+-- the last check of a chain that did not refuse, k being its number
+pub passes-last : (t : Bool) (k : ℕ) → 0 < k → refuseIf t k ≡ 0 → t ≡ false
+unfolding refuseIf
+passes-last true k h e = absurd (omega arith)
+passes-last false k h e = refl
+
+-- one before it, r being the rest of the chain
+pub passes : (t : Bool) (k r : ℕ) → 0 < k → orElse (refuseIf t k) r ≡ 0 → (t ≡ false) × (r ≡ 0)
+passes t k r h e = let n = orElse-none (refuseIf t k) r e in (passes-last t k h (n .0), n .1)

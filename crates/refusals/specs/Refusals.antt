@@ -1,5 +1,5 @@
 -- 01, "Where a call is turned back": the numbers of the table, by the names that the code has for them, and how checks follow each other.
-use mathlib.Core.Bool.{cond}
+use mathlib.Core.Bool.{Bool, cond}
 use mathlib.Core.List.{List, [], _∷_}
 use Prim.Native.Nat.{ℕ}
 use lib.Dec.{eqb}
@@ -56,6 +56,10 @@ SESSION = 16
 abbrev pub numbers : List ℕ
 numbers =
     SETTINGS ∷ TRUNCATED ∷ VERSION ∷ PADDING ∷ PAYLOAD-TOO-LARGE ∷ PAYLOAD-TYPE ∷ SSRC ∷ CLOCK ∷ NO-RTX ∷ NO-MEDIA ∷ NO-ORIGINAL-NUMBER ∷ GAPS-FULL ∷ ENTRIES-FULL ∷ COUNT ∷ OUTPUT ∷ SESSION ∷ []
+
+-- a check's number, where its test is true; 0 is none
+unfoldable pub refuseIf : Bool → ℕ → ℕ
+refuseIf t number = cond t number 0
 
 -- "Checks run downwards within a call": the second refusal counts only where the first is 0, which is none
 unfoldable pub orElse : ℕ → ℕ → ℕ

@@ -1,14 +1,14 @@
 -- The chain of `datagramRefusal`, check by check: the facts that lead to each number. Each law rewrites the tests by its facts.
 use mathlib.Core.Path.{_≡_, _∙_}
-use mathlib.Core.Bool.{true, false, cond, not}
+use mathlib.Core.Bool.{true, false, not}
 use mathlib.Core.List.{List}
 use Prim.Native.Nat.{ℕ, _≤_, _<_}
 use native.Mathlib.Omega.{arith}
 use lib.ListN.{length}
 use lib.Dec.{eqb, ltb}
 use borrow.Author.Tests.{lt-ltb, le-ltb, eq-eqb, ne-eqb, ltb-false, eqb-true, not-false}
-use Rattle.refusals.specs.Refusals.{TRUNCATED, VERSION, PADDING, PAYLOAD-TOO-LARGE, PAYLOAD-TYPE, SSRC}
-use Rattle.refusals.proofs.Laws.{passes}
+use Rattle.refusals.specs.Refusals.{TRUNCATED, VERSION, PADDING, PAYLOAD-TOO-LARGE, PAYLOAD-TYPE, SSRC, refuseIf, orElse}
+use Rattle.refusals.proofs.Laws.{passes, passes-last}
 use Rattle.rtp_packet.specs.Header.{version, payloadType, ssrc, headerLength, payloadOf}
 use Rattle.rtp_packet.specs.Datagram.{wrongPadding, datagramRefusal}
 
@@ -28,40 +28,43 @@ pub record Accepted (expectedType expectedSsrc largest : ℕ) (d : List ℕ) : T
 
 module _ (t s largest : ℕ) (d : List ℕ) where
   pub too-short : length d < 12 → datagramRefusal t s largest d ≡ TRUNCATED
-  unfolding datagramRefusal
+  unfolding datagramRefusal orElse refuseIf
   too-short h = rw (lt-ltb _ _ h)
 
   pub wrong-version : 12 ≤ length d → (version d ≡ 2 → ⊥) → datagramRefusal t s largest d ≡ VERSION
-  unfolding datagramRefusal
+  unfolding datagramRefusal orElse refuseIf
   wrong-version h v = rw (le-ltb _ _ h, ne-eqb _ _ v)
 
   pub cut-header : 12 ≤ length d → version d ≡ 2 → length d < headerLength d → datagramRefusal t s largest d ≡ TRUNCATED
-  unfolding datagramRefusal
+  unfolding datagramRefusal orElse refuseIf
   cut-header h v l = rw (le-ltb _ _ h, eq-eqb _ _ v, lt-ltb _ _ l)
 
   pub wrong-padding : 12 ≤ length d → version d ≡ 2 → headerLength d ≤ length d → wrongPadding d ≡ true → datagramRefusal t s largest d ≡ PADDING
-  unfolding datagramRefusal
+  unfolding datagramRefusal orElse refuseIf
   wrong-padding h v l p = rw (le-ltb _ _ h, eq-eqb _ _ v, le-ltb _ _ l, p)
 
   -- what is left of the chain then
   of-whole : Whole d → datagramRefusal t s largest d
-      ≡ cond (ltb largest (length (payloadOf d))) PAYLOAD-TOO-LARGE
-      (cond (not (eqb (payloadType d) t)) PAYLOAD-TYPE
-      (cond (not (eqb (ssrc d) s)) SSRC
-      0))
-  unfolding datagramRefusal
+      ≡ orElse (refuseIf (ltb largest (length (payloadOf d))) PAYLOAD-TOO-LARGE)
+      (orElse (refuseIf (not (eqb (payloadType d) t)) PAYLOAD-TYPE)
+      (refuseIf (not (eqb (ssrc d) s)) SSRC))
+  unfolding datagramRefusal orElse refuseIf
   of-whole w = rw (le-ltb _ _ (w .fixed-part), eq-eqb _ _ (w .is-version-2), le-ltb _ _ (w .header-fits), w .right-padding)
 
   pub too-large : Whole d → largest < length (payloadOf d) → datagramRefusal t s largest d ≡ PAYLOAD-TOO-LARGE
+  unfolding orElse refuseIf
   too-large w m = of-whole w ∙ rw (lt-ltb _ _ m)
 
   pub wrong-type : Whole d → length (payloadOf d) ≤ largest → (payloadType d ≡ t → ⊥) → datagramRefusal t s largest d ≡ PAYLOAD-TYPE
+  unfolding orElse refuseIf
   wrong-type w m p = of-whole w ∙ rw (le-ltb _ _ m, ne-eqb _ _ p)
 
   pub wrong-ssrc : Whole d → length (payloadOf d) ≤ largest → payloadType d ≡ t → (ssrc d ≡ s → ⊥) → datagramRefusal t s largest d ≡ SSRC
+  unfolding orElse refuseIf
   wrong-ssrc w m p q = of-whole w ∙ rw (le-ltb _ _ m, eq-eqb _ _ p, ne-eqb _ _ q)
 
   pub not-refused : Accepted t s largest d → datagramRefusal t s largest d ≡ 0
+  unfolding orElse refuseIf
   not-refused a = of-whole (a .whole) ∙ rw (le-ltb _ _ (a .payload-fits), eq-eqb _ _ (a .right-type), eq-eqb _ _ (a .right-ssrc))
 
   -- and back
@@ -74,7 +77,7 @@ module _ (t s largest : ℕ) (d : List ℕ) where
       let p4 = passes (wrongPadding d) PADDING _ (omega arith) (p3 .1) in
       let p5 = passes (ltb largest (length (payloadOf d))) PAYLOAD-TOO-LARGE _ (omega arith) (p4 .1) in
       let p6 = passes (not (eqb (payloadType d) t)) PAYLOAD-TYPE _ (omega arith) (p5 .1) in
-      let p7 = passes (not (eqb (ssrc d) s)) SSRC _ (omega arith) (p6 .1) in
+      let p7 = passes-last (not (eqb (ssrc d) s)) SSRC (omega arith) (p6 .1) in
       record {
         whole = record {
           fixed-part = ltb-false _ _ (p1 .0);
@@ -84,5 +87,5 @@ module _ (t s largest : ℕ) (d : List ℕ) where
         };
         payload-fits = ltb-false _ _ (p5 .0);
         right-type = eqb-true _ _ (not-false _ (p6 .0));
-        right-ssrc = eqb-true _ _ (not-false _ (p7 .0));
+        right-ssrc = eqb-true _ _ (not-false _ p7);
       }

@@ -4,7 +4,7 @@ use mathlib.Core.List.{List}
 use Prim.Native.Nat.{ℕ, _-_}
 use lib.Dec.{eqb, leb, ltb}
 use lib.ListN.{length}
-use Rattle.refusals.specs.Refusals.{TRUNCATED, VERSION, PADDING, PAYLOAD-TOO-LARGE, PAYLOAD-TYPE, SSRC}
+use Rattle.refusals.specs.Refusals.{TRUNCATED, VERSION, PADDING, PAYLOAD-TOO-LARGE, PAYLOAD-TYPE, SSRC, refuseIf, orElse}
 use Rattle.rtp_packet.specs.Header.{version, padding, marker, payloadType, sequenceNumber, timestamp, ssrc, headerLength, paddingLength, payloadEnd, payloadOf}
 use Rattle.rtp_packet.specs.declared.RtpPacket.{RtpPacket}
 use Rattle.rtp_packet.specs.declared.Parsed.{Parsed}
@@ -26,14 +26,13 @@ wrongPadding d =
 -- The number under which a session that expects this payload type and SSRC, and payloads of at most so many bytes, refuses a datagram; 0: none.
 unfoldable pub datagramRefusal : ℕ → ℕ → ℕ → List ℕ → ℕ
 datagramRefusal expectedType expectedSsrc mostBytes d =
-    cond (ltb (length d) 12) TRUNCATED
-    (cond (not (eqb (version d) 2)) VERSION
-    (cond (ltb (length d) (headerLength d)) TRUNCATED
-    (cond (wrongPadding d) PADDING
-    (cond (ltb mostBytes (length (payloadOf d))) PAYLOAD-TOO-LARGE
-    (cond (not (eqb (payloadType d) expectedType)) PAYLOAD-TYPE
-    (cond (not (eqb (ssrc d) expectedSsrc)) SSRC
-    0))))))
+    orElse (refuseIf (ltb (length d) 12) TRUNCATED)
+    (orElse (refuseIf (not (eqb (version d) 2)) VERSION)
+    (orElse (refuseIf (ltb (length d) (headerLength d)) TRUNCATED)
+    (orElse (refuseIf (wrongPadding d) PADDING)
+    (orElse (refuseIf (ltb mostBytes (length (payloadOf d))) PAYLOAD-TOO-LARGE)
+    (orElse (refuseIf (not (eqb (payloadType d) expectedType)) PAYLOAD-TYPE)
+    (refuseIf (not (eqb (ssrc d) expectedSsrc)) SSRC))))))
 
 unfoldable pub packetOf : List ℕ → RtpPacket
 packetOf d = record {

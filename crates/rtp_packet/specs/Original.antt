@@ -4,14 +4,14 @@ use mathlib.Core.List.{List}
 use Prim.Native.Nat.{ℕ}
 use lib.Dec.{eqb, ltb}
 use lib.ListN.{length, drop}
-use Rattle.refusals.specs.Refusals.{NO-ORIGINAL-NUMBER}
+use Rattle.refusals.specs.Refusals.{NO-ORIGINAL-NUMBER, refuseIf}
 use Rattle.rtp_packet.specs.Header.{bigEndian}
 use Rattle.rtp_packet.specs.declared.Original.{Original}
 use Rattle.rtp_packet.specs.declared.Original.the-variants.{Number, Refused}
 
 -- 01: "payload under 2 bytes"
 unfoldable pub originalRefusal : List ℕ → ℕ
-originalRefusal p = cond (ltb (length p) 2) NO-ORIGINAL-NUMBER 0
+originalRefusal p = refuseIf (ltb (length p) 2) NO-ORIGINAL-NUMBER
 
 unfoldable pub originalNumber : List ℕ → ℕ
 originalNumber p = bigEndian 2 0 p

@@ -6,9 +6,9 @@ use Prim.Native.Nat.{ℕ, _+_, _-_, _≤_, _<_}
 use lib.Dec.{leb, ltb}
 use borrow.Author.Tests.{lt-ltb, le-ltb, lt-leb, le-leb}
 use Rattle.durations.specs.Seconds.{largest}
-use Rattle.refusals.specs.Refusals.{COUNT, GAPS-FULL}
+use Rattle.refusals.specs.Refusals.{COUNT, GAPS-FULL, refuseIf}
 use Rattle.model.specs.Lists.{some?}
-use Rattle.model.specs.Table.{countRefusal, refuseIf}
+use Rattle.model.specs.Table.{countRefusal}
 
 pub count-none : 0 ≡ countRefusal []
 unfolding countRefusal some? refuseIf

@@ -3,7 +3,7 @@ ghost use mathlib.Core.Path.{_≡_};
 ghost use mathlib.Core.List.{[], _∷_};
 ghost use Prim.Native.Nat.{_+_, _≤_, _<_, _^_};
 ghost use lib.Dec.{T};
-ghost use Rattle.rtp.specs.Opt.{timestampOf};
+ghost use Rattle.rtp.specs.Opt.{timestampOf, atMost};
 ghost use Rattle.durations.specs.Seconds.{largest};
 ghost use Rattle.config.specs.Valid.{settingsValid};
 ghost use Rattle.config.specs.declared.RtpInboundQueueMode.the-variants.{SortedQueue};
@@ -31,7 +31,7 @@ pub fn lost_refusal(q: Queue, lost: u64) -> u64
     0
 }
 
-// The clock, and the numbers given up first.
+// The clock, and the numbers that are given up before anything else is done.
 pub fn drained(q: Queue, now: u64, lost: u64) -> Queue
     requires { ⌜ q .counters .lost + lost < 2 ^ 64 ⌝ }
     ensures { λ r. ⌜ r ≡ Poll.lose lost (Records.withClock q now) ⌝ }
@@ -50,7 +50,7 @@ pub fn handed_out(q: Queue, lost: u64, number: ExtendedSequenceNumber) -> Queue
 }
 
 fn reaches(timestamp: ExtendedRtpTimestamp, limit: OptTimestamp) -> bool
-    ensures { λ r. ⌜ r ≡ Poll.reaches (timestamp .0) (timestampOf limit) ⌝ }
+    ensures { λ r. ⌜ r ≡ atMost (timestamp .0) (timestampOf limit) ⌝ }
 {
     match limit {
         OptTimestamp::None => false,

@@ -217,7 +217,7 @@ pub fn counts_refusal(
 // 12 with so many gaps open and a step of s above the highest.
 fn room_refusal(max_gaps: usize, opened: usize, s: u64) -> u64
     requires { ⌜ opened ≤ «max_gaps» ⌝ }
-    ensures { λ r. ⌜ r ≡ Table.refuseIf (ltb «max_gaps» (opened + (s - 1)) && leb 2 s) Refusals.GAPS-FULL ⌝ }
+    ensures { λ r. ⌜ r ≡ Refusals.refuseIf (ltb «max_gaps» (opened + (s - 1)) && leb 2 s) Refusals.GAPS-FULL ⌝ }
 {
     if s < 2 {
         return 0;
@@ -237,7 +237,7 @@ pub fn gaps_refusal(
     place: Place,
 ) -> u64
     requires { ⌜ opened ≤ settings .«max_gaps» ⌝ }
-    ensures { λ r. ⌜ r ≡ Table.refuseIf (Table.tooManyGaps settings opened (number .0) (Spec.place place)) Refusals.GAPS-FULL ⌝ }
+    ensures { λ r. ⌜ r ≡ Refusals.refuseIf (Table.tooManyGaps settings opened (number .0) (Spec.place place)) Refusals.GAPS-FULL ⌝ }
 {
     match place {
         Place::Near(h) => {

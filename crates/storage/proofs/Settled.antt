@@ -14,8 +14,8 @@ use Rattle.words.specs.Order.{ascends}
 use Rattle.words.specs.Blocks.{laid}
 use Rattle.words.proofs.Ordered.{and-left, and-right}
 use Rattle.durations.specs.Seconds.{largest}
-use Rattle.refusals.specs.Refusals.{SESSION, orElse}
-use Rattle.refusals.proofs.Laws.{orElse-first, orElse-second, passes}
+use Rattle.refusals.specs.Refusals.{SESSION, refuseIf, orElse}
+use Rattle.refusals.proofs.Laws.{orElse-first, orElse-second, passes-last}
 use Rattle.config.specs.Valid.{settingsValid, sendersValid}
 use Rattle.config.proofs.Facts.{Usable}
 use Rattle.model.specs.declared.Session.{Session}
@@ -25,7 +25,7 @@ use Rattle.model.specs.Valid.{boundsOf, queueSound, listsSound, lastSound}
 use Rattle.model.specs.Storage.{Storage, Stored, entryWords, payloadBytes, gapWords, rememberedWords, entryPlaces, lengthsFit, entriesOf, gapsOf, rememberedOf, entriesLaid, payloadsLaid, gapsLaid, rememberedLaid, parse, write}
 use Rattle.model.specs.Calls as Calls
 use Rattle.model.specs.Calls.{Call, rtxStats, taken, outputOf}
-use Rattle.model.specs.Table.{configValid, sessionSound, sessionRefusal, refuseIf, callRefusal, refusal}
+use Rattle.model.specs.Table.{configValid, sessionSound, sessionRefusal, callRefusal, refusal}
 use Rattle.model.specs.Did.{did, accepted, turnedBack}
 use Rattle.model.proofs.Lists.{Each}
 use Rattle.model.proofs.Laid.{entriesOf-laid, gapsOf-laid, rememberedOf-laid, lengths-write, parse-write, parse-entries, parse-gaps, parse-remembered, length-entriesOf, length-gapsOf, length-rememberedOf}
@@ -59,7 +59,7 @@ sound-none m h = rw h
 
 pub passed-16 : (m : Stored) → sessionRefusal m ≡ 0 → sessionSound m ≡ true
 unfolding sessionRefusal refuseIf
-passed-16 m e = not-false (sessionSound m) (passes (not (sessionSound m)) SESSION 0 (omega arith) e .0)
+passed-16 m e = not-false (sessionSound m) (passes-last (not (sessionSound m)) SESSION (omega arith) e)
 
 pub checked : (m : Stored) → sessionSound m ≡ true → Checked m
 checked m h =

@@ -1,4 +1,5 @@
-// What every call does first: 01's check 16 on the session and the lent slices, and zeros in the places that are not used.
+// 01's check 16 on the session and the lent slices, which every call makes first, and the zeros that an accepted call leaves in the places
+// that are not used.
 ghost use mathlib.Core.Path.{_≡_};
 ghost use mathlib.Core.Bool.{true};
 ghost use mathlib.Core.List.{List};

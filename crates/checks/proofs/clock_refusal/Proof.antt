@@ -4,7 +4,8 @@ use Prim.Native.Nat.{_≤_}
 use borrow.Author.Needs.{needs}
 use borrow.Author.Tests.{lt-ltb, le-ltb, leb-true, leb-false, not-true, not-false}
 use Rattle.durations.specs.Seconds.{largest}
-use Rattle.model.specs.Table.{clockRefusal, refuseIf}
+use Rattle.refusals.specs.Refusals.{refuseIf}
+use Rattle.model.specs.Table.{clockRefusal}
 use Rattle.checks.proofs.clock_refusal.Statement.{statement}
 use Rattle.checks.proofs.clock_refusal.Tie as tie
 

@@ -1,5 +1,6 @@
 -- `media_first_refusal` meets its contract, arm by arm.
-use Rattle.model.specs.Table.{mediaFirstRefusal, refuseIf, noMedia}
+use Rattle.refusals.specs.Refusals.{refuseIf}
+use Rattle.model.specs.Table.{mediaFirstRefusal, noMedia}
 use borrow.Author.Needs.{needs}
 use Rattle.checks.proofs.media_first_refusal.Statement.{statement}
 use Rattle.checks.proofs.media_first_refusal.Tie as tie

@@ -1,6 +1,6 @@
 -- `returned_sound` meets its contract, arm by arm.
-use Rattle.model.specs.Valid.{returnedSound, atMost}
-use Rattle.rtp.specs.Opt.{numberOf}
+use Rattle.model.specs.Valid.{returnedSound}
+use Rattle.rtp.specs.Opt.{numberOf, atMost}
 use Rattle.model.specs.Records.{highestOf}
 use borrow.Author.Needs.{needs}
 use Rattle.checks.proofs.returned_sound.Statement.{statement}

@@ -1,5 +1,6 @@
 -- `rtx_refusal` meets its contract: the flag decides.
-use Rattle.model.specs.Table.{rtxRefusal, refuseIf}
+use Rattle.refusals.specs.Refusals.{refuseIf}
+use Rattle.model.specs.Table.{rtxRefusal}
 use Rattle.checks.proofs.rtx_refusal.Statement.{statement}
 use Rattle.checks.proofs.rtx_refusal.Tie as tie
 

@@ -1,18 +1,18 @@
--- `position`: those before place i are apart from x, and those from it on decide.
+-- `position`: those before place i are of other numbers than x, and those from it on decide.
 use mathlib.Core.Path.{_≡_}
 use Prim.Native.Nat.{_+_, _-_, _≤_}
 use native.Mathlib.Omega.{arith}
 use lib.ListN.{length, drop}
 use Rattle.model.specs.Lists.{leading}
 use Rattle.model.specs.Storage.{rememberedOf}
-use Rattle.lost_nacked.specs.Remembered.{remembered, apart}
+use Rattle.lost_nacked.specs.Remembered.{remembered, another}
 use Rattle.lost_nacked.proofs.Laws.{position-found, position-more, position-end}
 use borrow.Author.Needs.{needs}
 use Rattle.lost_nacked.proofs.position.Statement.{statement}
 use Rattle.lost_nacked.proofs.position.Tie as tie
 
 abbrev Inv-loop : tie.InvT-loop
-Inv-loop s n x i₀ i = (length (leading (apart (x .0)) (rememberedOf s n)) ≡ i + length (leading (apart (x .0)) (drop i (rememberedOf s n)))) × (i ≤ n)
+Inv-loop s n x i₀ i = (length (leading (another (x .0)) (rememberedOf s n)) ≡ i + length (leading (another (x .0)) (drop i (rememberedOf s n)))) × (i ≤ n)
 
 abbrev μ-loop : tie.MeasureT-loop
 μ-loop s n x i₀ i = n - i

@@ -1,7 +1,8 @@
 -- `output_refusal` meets its contract: the same test.
 use borrow.Author.Tests.{lt-ltb, le-ltb}
 use native.Mathlib.Omega.{arith}
-use Rattle.model.specs.Table.{outputRefusal, refuseIf}
+use Rattle.refusals.specs.Refusals.{refuseIf}
+use Rattle.model.specs.Table.{outputRefusal}
 use Rattle.poll.proofs.output_refusal.Statement.{statement}
 use Rattle.poll.proofs.output_refusal.Tie as tie
 

@@ -1,6 +1,7 @@
 -- `session_refusal` meets its contract: 16, where the session is not sound.
 use mathlib.Core.Path.{sym, _∙_}
-use Rattle.model.specs.Table.{sessionRefusal, refuseIf}
+use Rattle.refusals.specs.Refusals.{refuseIf}
+use Rattle.model.specs.Table.{sessionRefusal}
 use borrow.Author.Needs.{needs}
 use Rattle.storage.proofs.session_refusal.Statement.{statement}
 use Rattle.storage.proofs.session_refusal.Tie as tie

@@ -1,6 +1,5 @@
 -- `at_most`: each arm is a line of the definition.
-use Rattle.rtp.specs.Opt.{numberOf}
-use Rattle.model.specs.Valid.{atMost}
+use Rattle.rtp.specs.Opt.{numberOf, atMost}
 use borrow.Author.Needs.{needs}
 use Rattle.entries.proofs.check.at_most.Statement.{statement}
 use Rattle.entries.proofs.check.at_most.Tie as tie

@@ -1,5 +1,5 @@
 -- `mode_word` meets its contract: each arm is a line of the definition.
-use Rattle.ffi_words.specs.Words.{modeWord}
+use Rattle.config.specs.Mode.{modeNumber}
 use borrow.Author.Needs.{needs}
 use Rattle.ffi_words.proofs.writing.mode_word.Statement.{statement}
 use Rattle.ffi_words.proofs.writing.mode_word.Tie as tie
@@ -11,11 +11,11 @@ enum-told-2 : tie.Need-enum-told-2
 enum-told-2 c = search needs
 
 returns : tie.Need-returns
-unfolding modeWord
+unfolding modeNumber
 returns c = cc
 
 returns-2 : tie.Need-returns-2
-unfolding modeWord
+unfolding modeNumber
 returns-2 c = cc
 
 pub mode-word-spec : {M : Type 1} → statement M

@@ -1,6 +1,7 @@
 -- `entries_refusal`, arm by arm.
 use Rattle.session.specs.Place.{fate}
-use Rattle.model.specs.Table.{refuseIf, noPlace}
+use Rattle.refusals.specs.Refusals.{refuseIf}
+use Rattle.model.specs.Table.{noPlace}
 use borrow.Author.Tests.{le-leb, lt-leb}
 use borrow.Author.Needs.{needs}
 use Rattle.push.proofs.rtx.entries_refusal.Statement.{statement}

@@ -1,8 +1,8 @@
 -- `refusal` meets its contract: the lengths are looked at where the settings are valid.
 use mathlib.Core.Path.{sym, _∙_}
 use borrow.Author.Tests.{not-true, not-false}
-use Rattle.refusals.specs.Refusals.{orElse}
-use Rattle.model.specs.Table.{refuseIf, openingRefusal}
+use Rattle.refusals.specs.Refusals.{refuseIf, orElse}
+use Rattle.model.specs.Table.{openingRefusal}
 use Rattle.storage.proofs.Checking.{valid-usable}
 use borrow.Author.Needs.{needs}
 use Rattle.queue.proofs.open.refusal.Statement.{statement}

@@ -1,7 +1,8 @@
 -- `lost_refusal` meets its contract: one value, one test.
 use borrow.Author.Tests.{lt-ltb, le-ltb}
 use Rattle.model.specs.Lists.{some?}
-use Rattle.model.specs.Table.{countRefusal, refuseIf}
+use Rattle.refusals.specs.Refusals.{refuseIf}
+use Rattle.model.specs.Table.{countRefusal}
 use borrow.Author.Needs.{needs}
 use Rattle.session.proofs.poll.lost_refusal.Statement.{statement}
 use Rattle.session.proofs.poll.lost_refusal.Tie as tie

@@ -1,7 +1,8 @@
 -- `gaps_refusal` meets its contract, arm by arm.
 use mathlib.Core.Path.{_∙_}
 use Rattle.session.specs.Place.{place}
-use Rattle.model.specs.Table.{tooManyGaps, refuseIf}
+use Rattle.refusals.specs.Refusals.{refuseIf}
+use Rattle.model.specs.Table.{tooManyGaps}
 use borrow.Author.Needs.{needs}
 use Rattle.session.proofs.push.gaps_refusal.Statement.{statement}
 use Rattle.session.proofs.push.gaps_refusal.Tie as tie
