@@ -1,18 +1,31 @@
 /* The receive queue of one RTP stream: datagrams and instants in; packets in order, NACK lists and timeouts out.
  *
- * Link target/staticlib/libffi.a, which `rt staticlib ffi` makes; it needs memset and memmove alone. C99 or later, 64-bit.
- * docs/USING.md tells how to choose settings and drive the queue. No function allocates, blocks, reads a clock or keeps
- * state of its own: a session is a struct that goes in by value and comes back by value, its storage is four arrays that
- * the caller owns. Different sessions may be used from different threads at once.
+ * Link target/staticlib/libffi.a, which `rt staticlib ffi` makes; it needs memset and memmove alone. C99 or later, x86-64
+ * Linux. docs/USING.md tells how to choose settings and drive the queue. No function allocates, blocks, reads a clock or
+ * keeps state of its own: a session is a struct that goes in by value and comes back by value, its storage is four arrays
+ * that the caller owns.
  *
- * The caller owes what C cannot check: each pointer names live memory of the length beside it, and no two of them overlap.
- * Every VALUE is checked, damaged sessions and storage included. A refused call (`refusal` not 0) changes nothing: the
- * session comes back as it was given, word for word, and no array is written to. After an accepted call every unused
- * place of the storage holds zeros.
+ * Look at `refusal` first. A refused call (`refusal` not 0) changes nothing: the session comes back as it was given, word
+ * for word (a refused opening gives a session of zeros), and no array is written to. Its answer means nothing: every word of
+ * it is 0, also where 0 is BIZHGEMU_QUEUED or BIZHGEMU_RECOVERED, or says that there is no packet or no timeout. After an
+ * accepted call every unused place of the storage holds zeros.
  *
- * Instants are nanoseconds since the box started, from a clock that never goes back, at most BIZHGEMU_LATEST. Durations
- * are nanoseconds. Flags are words, 0 or 1; a value beside a flag that is 0 is 0 (`rtx_pt` and `rtx_ssrc` stay as they were
- * set), and so is every answer of a refused call.
+ * The caller owes what C cannot check:
+ *  - Each pointer is aligned as its type asks, is not NULL, and names live memory of as many ELEMENTS as the length beside it
+ *    says; no two of them overlap.
+ *  - Each call gets the session and the storage that the call before it left. Damage is refused under 16, but not every
+ *    exchange is seen: an older copy of a session beside newer storage may be accepted.
+ *  - Calls on one session come one at a time. Different sessions, each with storage of its own, may be used from different
+ *    threads at once. The calls that only read write to the lent storage too; `bizhgemu_figures` alone touches none.
+ *  - Floats are rounded to nearest, and subnormal ones are kept, as programs usually start. Another rounding can leave a
+ *    session that the next call refuses under 16; flushing subnormals to zero, which linking with -ffast-math may set, changes
+ *    the figures.
+ * Every VALUE is checked, damaged sessions and storage included.
+ *
+ * Instants are nanoseconds since a start that you choose, not over 52 days back, from a clock that never goes back; at most
+ * BIZHGEMU_LATEST. (CLOCK_MONOTONIC counts from the start of the machine: take its reading at your own start off.)
+ * Durations are nanoseconds. Flags are words, 0 or 1; a value beside a flag that is 0 is 0 (`rtx_pt` and `rtx_ssrc` stay as
+ * they were set).
  *
  * Most programs want `struct bizhgemu_queue` and the functions named bizhgemu_queue_*, at the end of this file. They are C,
  * compiled with your program; what is proved are the functions of the archive. */
@@ -39,7 +52,8 @@ extern "C" {
 #define BIZHGEMU_GAPS(G) (4 * (G))
 #define BIZHGEMU_REMEMBERED 2048
 
-/* Why a call was turned back. Checks run in the order of docs/USING.md, not of these numbers. */
+/* Why a call was turned back. Checks run in the order of docs/USING.md, "Refusals in the field", not of these numbers; there
+ * it also says what to do about each. */
 enum bizhgemu_refusal {
 	BIZHGEMU_ACCEPTED = 0,
 	BIZHGEMU_SETTINGS = 1,            /* a setting is out of its range */
@@ -62,11 +76,11 @@ enum bizhgemu_refusal {
 
 /* `mode` of the settings. */
 enum bizhgemu_mode {
-	BIZHGEMU_PASSTHROUGH = 0, /* packets are handed out at once */
+	BIZHGEMU_PASSTHROUGH = 0, /* packets are handed out at once; late ones come out of order */
 	BIZHGEMU_SORTED_QUEUE = 1 /* in order, kept for `delay` */
 };
 
-/* `answer` to a media packet, and to a repair. */
+/* `answer` to a media packet, and to a repair, where `refusal` is 0. */
 enum bizhgemu_media { BIZHGEMU_QUEUED = 0, BIZHGEMU_DROPPED = 1 };
 enum bizhgemu_repair { BIZHGEMU_RECOVERED = 0, BIZHGEMU_REDUNDANT = 1, BIZHGEMU_TOO_LATE = 2 };
 
@@ -133,7 +147,7 @@ struct bizhgemu_opened {
 	struct bizhgemu_session session;
 };
 
-/* What became of a datagram: `answer` is of enum bizhgemu_media or enum bizhgemu_repair. */
+/* What became of a datagram: `answer` is of enum bizhgemu_media or enum bizhgemu_repair, and 0 beside a refusal. */
 struct bizhgemu_pushed {
 	uint64_t refusal;
 	uint64_t answer;
@@ -168,7 +182,8 @@ struct bizhgemu_polled_nack {
 	struct bizhgemu_session session;
 };
 
-/* The time from `now` until a packet or a NACK should be asked for; there may be none then (docs/USING.md). No timeout: nothing to wait for. */
+/* The time from `now` until a packet or a NACK should be asked for; there may be none then (docs/USING.md). No timeout:
+ * nothing to wait for, or beside a refusal nothing told. */
 struct bizhgemu_timeout {
 	uint64_t refusal;
 	uint64_t has_timeout;
@@ -279,8 +294,8 @@ struct bizhgemu_highest bizhgemu_highest_sequence_number_received(struct bizhgem
 /* The figures a box shows. Refused under 16 where the session itself is not sound; the storage is not looked at. */
 struct bizhgemu_figures bizhgemu_figures(struct bizhgemu_session session);
 
-/* A session with its storage. Fill in the four pointers with arrays of the lengths that BIZHGEMU_ENTRIES and so on give,
- * then open it. */
+/* A session with its storage. Fill in the four pointers and their lengths, those that BIZHGEMU_ENTRIES and so on give, then
+ * open it. The memory need not be initialised. */
 struct bizhgemu_queue {
 	struct bizhgemu_session session;
 	uint64_t *entries;
@@ -341,7 +356,7 @@ static inline struct bizhgemu_polled_nack bizhgemu_queue_poll_nack(struct bizhge
 }
 
 /* The smaller of the two timeouts: how long a host may sleep if no datagram comes. */
-static inline struct bizhgemu_timeout bizhgemu_queue_timeout(const struct bizhgemu_queue *q, uint64_t now)
+static inline struct bizhgemu_timeout bizhgemu_queue_timeout(struct bizhgemu_queue *q, uint64_t now)
 {
 	const struct bizhgemu_timeout receive = bizhgemu_timeout_receive(q->session, BIZHGEMU_LENT(q), now);
 	const struct bizhgemu_timeout nack = bizhgemu_timeout_nack(q->session, BIZHGEMU_LENT(q), now);
@@ -350,12 +365,12 @@ static inline struct bizhgemu_timeout bizhgemu_queue_timeout(const struct bizhge
 	return receive;
 }
 
-static inline struct bizhgemu_rtx_stats bizhgemu_queue_rtx_stats(const struct bizhgemu_queue *q)
+static inline struct bizhgemu_rtx_stats bizhgemu_queue_rtx_stats(struct bizhgemu_queue *q)
 {
 	return bizhgemu_rtx_stats(q->session, BIZHGEMU_LENT(q));
 }
 
-static inline struct bizhgemu_highest bizhgemu_queue_highest(const struct bizhgemu_queue *q)
+static inline struct bizhgemu_highest bizhgemu_queue_highest(struct bizhgemu_queue *q)
 {
 	return bizhgemu_highest_sequence_number_received(q->session, BIZHGEMU_LENT(q));
 }

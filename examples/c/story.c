@@ -1,5 +1,5 @@
-/* A stream with a loss, a NACK, a repair and a strange datagram, through the queue. `make -C examples/c` builds it, runs it and compares
- * what it prints with story.expected. */
+/* A stream with a loss, a NACK, repairs and a strange datagram, through the queue; then a packet in passthrough, and the latest
+ * instant. `make -C examples/c` builds it, runs it and compares what it prints with story.expected. */
 
 #include "bizhgemu.h"
 
@@ -39,9 +39,27 @@ static uint32_t timestamp_of(uint16_t number)
 	return 160u * (uint16_t)(number - 65534);
 }
 
+static const char *media_answer(uint64_t answer)
+{
+	switch (answer) {
+	case BIZHGEMU_QUEUED: return "queued";
+	case BIZHGEMU_DROPPED: return "dropped";
+	default: return "not an answer";
+	}
+}
+
+static const char *repair_answer(uint64_t answer)
+{
+	switch (answer) {
+	case BIZHGEMU_RECOVERED: return "recovered";
+	case BIZHGEMU_REDUNDANT: return "redundant";
+	case BIZHGEMU_TOO_LATE: return "too late";
+	default: return "not an answer";
+	}
+}
+
 static void push(struct bizhgemu_queue *q, uint64_t ms, uint16_t number, uint32_t ssrc)
 {
-	static const char *const words[] = {"queued", "dropped"};
 	uint8_t datagram[12 + PAYLOAD];
 	header(datagram, PT, number, timestamp_of(number), ssrc);
 	memset(datagram + 12, number & 0xff, PAYLOAD);
@@ -49,12 +67,11 @@ static void push(struct bizhgemu_queue *q, uint64_t ms, uint16_t number, uint32_
 	if (r.refusal)
 		printf("%3d ms  media %5u: refused under %d\n", (int)ms, number, (int)r.refusal);
 	else
-		printf("%3d ms  media %5u: %s\n", (int)ms, number, words[r.answer]);
+		printf("%3d ms  media %5u: %s\n", (int)ms, number, media_answer(r.answer));
 }
 
 static void push_rtx(struct bizhgemu_queue *q, uint64_t ms, uint16_t number)
 {
-	static const char *const words[] = {"recovered", "redundant", "too late"};
 	uint8_t datagram[12 + 2 + PAYLOAD];
 	header(datagram, RTX_PT, 7, timestamp_of(number), RTX_SSRC);
 	put(datagram + 12, number, 2);
@@ -63,7 +80,7 @@ static void push_rtx(struct bizhgemu_queue *q, uint64_t ms, uint16_t number)
 	if (r.refusal)
 		printf("%3d ms  repair %5u: refused under %d\n", (int)ms, number, (int)r.refusal);
 	else
-		printf("%3d ms  repair %5u: %s\n", (int)ms, number, words[r.answer]);
+		printf("%3d ms  repair %5u: %s\n", (int)ms, number, repair_answer(r.answer));
 }
 
 /* What a host does when it wakes: NACKs, then packets until none is due, then sleep. Whether a call was refused. */
@@ -91,14 +108,34 @@ static int wake(struct bizhgemu_queue *q, uint64_t ms)
 	return nack.refusal || polled.refusal || sleep.refusal;
 }
 
-static int figures(const struct bizhgemu_queue *q)
+static int figures(struct bizhgemu_queue *q)
 {
 	const struct bizhgemu_figures f = bizhgemu_queue_figures(q);
 	const struct bizhgemu_rtx_stats r = bizhgemu_queue_rtx_stats(q);
+	const struct bizhgemu_highest h = bizhgemu_queue_highest(q);
 	printf("received %d, dropped %d, lost %d, loss %.4f, jitter %.3f ms\n", (int)f.packets_received, (int)f.packets_dropped,
 		(int)f.packets_lost, (double)f.loss, (double)f.jitter / 1e6);
-	printf("repairs in time %d, round trip %.3f ms\n", (int)r.packets_received_in_time, (double)r.rtt / 1e6);
-	return f.refusal || r.refusal;
+	printf("repairs in time %d, redundant %d, too late %d, round trip %.3f ms\n", (int)r.packets_received_in_time,
+		(int)r.packets_received_redundant, (int)r.packets_received_too_late, (double)r.rtt / 1e6);
+	printf("highest %d\n", (int)h.number);
+	return f.refusal || r.refusal || h.refusal;
+}
+
+/* Opens the queue; whether that was refused. */
+static int open_in(struct bizhgemu_queue *q, struct bizhgemu_config config, uint32_t mode)
+{
+	config.mode = mode;
+	const uint64_t refusal = bizhgemu_queue_open(q, config).refusal;
+	if (refusal)
+		fprintf(stderr, "opening refused under %d\n", (int)refusal);
+	return refusal != 0;
+}
+
+/* What a call at an instant is refused under, or 0. */
+static int refusal_at(struct bizhgemu_queue *q, uint64_t now)
+{
+	uint8_t payload[BIZHGEMU_LONGEST_PAYLOAD];
+	return (int)bizhgemu_queue_poll(q, now, payload, sizeof payload).refusal;
 }
 
 int main(void)
@@ -110,15 +147,12 @@ int main(void)
 		.remembered = remembered, .remembered_len = BIZHGEMU_REMEMBERED,
 	};
 	const struct bizhgemu_config config = {
-		.mode = BIZHGEMU_SORTED_QUEUE, .delay = 60 * MS, .initial_nack_delay = 5 * MS, .default_nack_resend_delay = 20 * MS,
+		.delay = 60 * MS, .initial_nack_delay = 5 * MS, .default_nack_resend_delay = 20 * MS,
 		.max_entries = D, .max_gaps = G, .clock_rate = 8000, .max_nack_attempts = 3,
 		.pt = PT, .ssrc = SSRC, .has_rtx = 1, .rtx_pt = RTX_PT, .rtx_ssrc = RTX_SSRC,
 	};
-	const uint64_t refusal = bizhgemu_queue_open(&q, config).refusal;
-	if (refusal) {
-		fprintf(stderr, "opening refused under %d\n", (int)refusal);
+	if (open_in(&q, config, BIZHGEMU_SORTED_QUEUE))
 		return 1;
-	}
 
 	int failed = 0;
 	push(&q, 0, 65534, SSRC);
@@ -127,6 +161,7 @@ int main(void)
 	failed |= wake(&q, 60);
 	failed |= wake(&q, 65);
 	push_rtx(&q, 75, 0);
+	push_rtx(&q, 76, 0); /* twice */
 	push(&q, 80, 2, SSRC ^ 1); /* one bit of the sender turned over */
 	push(&q, 80, 2, SSRC);
 	push(&q, 81, 2, SSRC); /* twice */
@@ -134,6 +169,15 @@ int main(void)
 	failed |= wake(&q, 100);
 	failed |= wake(&q, 120);
 	failed |= wake(&q, 140);
+	push_rtx(&q, 141, 0); /* handed out long since */
 	failed |= figures(&q);
+
+	printf("in passthrough\n");
+	if (open_in(&q, config, BIZHGEMU_PASSTHROUGH))
+		return 1;
+	push(&q, 0, 65534, SSRC);
+	failed |= wake(&q, 0);
+	printf("refusal at the latest instant: %d\n", refusal_at(&q, BIZHGEMU_LATEST));
+	printf("refusal one later: %d\n", refusal_at(&q, BIZHGEMU_LATEST + 1));
 	return failed;
 }

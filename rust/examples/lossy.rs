@@ -1,4 +1,4 @@
-//! A way that loses packets, between a sender of RTP and `listen`: it passes datagrams on, loses one in so many, and repairs (RFC 4588)
+//! A path that loses packets, between a sender of RTP and `listen`: it passes datagrams on, loses one in so many, and repairs (RFC 4588)
 //! those that `listen` names by `--nack`. FROM is the address it listens at, for the sender and for NACK lines alike; TO is where
 //! `listen` listens.
 
@@ -12,7 +12,7 @@ const KEPT: usize = 512;
 const USAGE: &str = "usage: lossy FROM TO LOSE-ONE-IN ROUND-TRIP-MS RTX-PT RTX-SSRC SECONDS, all numbers decimal";
 const TICK: Duration = Duration::from_millis(1);
 
-struct Way {
+struct Path {
     lose_one_in: u64,
     round_trip: Duration,
     rtx_pt: u8,
@@ -23,7 +23,7 @@ struct Way {
     repairs: VecDeque<(Instant, Vec<u8>)>,
 }
 
-impl Way {
+impl Path {
     /// Keeps a media packet; whether it is passed on.
     fn media(&mut self, datagram: &[u8]) -> bool {
         if self.kept.len() == KEPT {
@@ -69,7 +69,7 @@ fn main() -> io::Result<()> {
     let [lose_one_in, round_trip, rtx_pt, rtx_ssrc, seconds] = numbers[..] else {
         return Err(io::Error::other(USAGE));
     };
-    let way = Way {
+    let path = Path {
         lose_one_in: lose_one_in.into(),
         round_trip: Duration::from_millis(round_trip.into()),
         rtx_pt: rtx_pt as u8 & 0x7f,
@@ -79,23 +79,23 @@ fn main() -> io::Result<()> {
         kept: VecDeque::new(),
         repairs: VecDeque::new(),
     };
-    run(way, &UdpSocket::bind(from)?, to, Instant::now() + Duration::from_secs(seconds.into()))
+    run(path, &UdpSocket::bind(from)?, to, Instant::now() + Duration::from_secs(seconds.into()))
 }
 
-fn run(mut way: Way, socket: &UdpSocket, to: &str, end: Instant) -> io::Result<()> {
+fn run(mut path: Path, socket: &UdpSocket, to: &str, end: Instant) -> io::Result<()> {
     socket.set_read_timeout(Some(TICK))?;
     let mut bytes = [0; 2048];
     while Instant::now() < end {
         match socket.recv(&mut bytes) {
-            Ok(length) if bytes.starts_with(b"NACK ") => way.nack(&String::from_utf8_lossy(&bytes[..length])),
-            Ok(length) if length >= 12 && way.media(&bytes[..length]) => {
+            Ok(length) if bytes.starts_with(b"NACK ") => path.nack(&String::from_utf8_lossy(&bytes[..length])),
+            Ok(length) if length >= 12 && path.media(&bytes[..length]) => {
                 socket.send_to(&bytes[..length], to)?;
             }
             Ok(_) => {}
             Err(error) if matches!(error.kind(), ErrorKind::WouldBlock | ErrorKind::TimedOut) => {}
             Err(error) => return Err(error),
         }
-        while let Some(repair) = way.due() {
+        while let Some(repair) = path.due() {
             socket.send_to(&repair, to)?;
         }
     }

@@ -1,6 +1,6 @@
 //! Answers a trace (docs/TRACE.md) by the library through its boundary, as the program `replay` does without it.
 //!
-//! `tools/compare target/release/examples/replay` compares it with the original Rust on generated traces.
+//! At the top of the repository `tools/compare rust/target/release/examples/replay` compares it with the original Rust on generated traces.
 
 #[path = "../tests/trace/mod.rs"]
 mod trace;

@@ -228,12 +228,6 @@ fn resize<T: Clone + Default>(slice: &mut Box<[T]>, length: usize) {
 }
 
 #[test]
-fn a_sound_session_is_not_refused() {
-    let lent = lent();
-    assert_eq!(refusals(&lent, lent.session.clock), [0; 9]);
-}
-
-#[test]
 fn flags_that_are_not_flags_are_refused_at_the_opening() {
     let Queue { mut storage, .. } = used();
     let before = storage.clone();

@@ -5,7 +5,8 @@ use std::time::Duration;
 /// How packets are handed out.
 #[derive(Clone, Copy, Debug, PartialEq, Eq)]
 pub enum Mode {
-    /// At once, in the order of their numbers among those that wait.
+    /// At once, in the order of their numbers among those that wait; late packets come out of order. Call
+    /// [`poll_nack`](crate::Queue::poll_nack) even if you send no NACKs.
     Passthrough,
     /// In order, each [`Config::delay`] after it was due to arrive.
     SortedQueue,
@@ -38,13 +39,14 @@ pub struct Config {
     pub clock_rate: u32,
     /// How long a sorted queue keeps a packet, at most 60 s. Default: 100 ms.
     pub delay: Duration,
-    /// Depth D: packets kept, 1 to 1,024. At least `delay` / packet time + 1, twice that with repairs. Default: 100.
+    /// Depth D: packets kept, 1 to 1,024. At least `delay` / packet time + 1, twice that with repairs. 16 is enough for 100 ms
+    /// of 20 ms packets and costs less in every call. Default: 100.
     pub max_entries: usize,
     /// Most missing numbers at a time, G: 999 to 4,096. Default: 999.
     pub max_gaps: usize,
     /// From the detection of a gap to its first NACK, at most 60 s. Default: 5 ms.
     pub initial_nack_delay: Duration,
-    /// From one NACK to the next while no round trip was measured, at most 60 s. Default: 20 ms.
+    /// From one NACK to the next while no round trip was measured, at most 60 s. Set it above the round trip. Default: 20 ms.
     pub default_nack_resend_delay: Duration,
     /// NACKs after which [`Mode::Passthrough`] gives a number up, 1 to 255. Default: 3.
     pub max_nack_attempts: u32,

@@ -38,7 +38,9 @@
 //!
 //! Whatever is wrong with a call comes back as a [`Refusal`], which says what it means and what to do about it; nothing panics, whatever
 //! the network sends. `docs/USING.md` in the repository tells how to choose the settings and what real senders do; the example
-//! `listen` is a complete host.
+//! `listen` is a host that shows the signs of trouble; it opens no new session after 8, 14 or 16, which a box must.
+//!
+//! Floats are taken to be rounded to nearest with subnormal numbers kept, as programs usually start.
 
 #![deny(missing_docs, unsafe_op_in_unsafe_fn)]
 

@@ -77,9 +77,9 @@ pub(crate) use lend;
 
 /// The receive queue of one RTP stream. It owns its session and storage; opening is the only time it allocates.
 ///
-/// Instants are durations since the box started, from one [`Clock`](crate::Clock). `push`, `push_rtx`, `poll` and
-/// `poll_nack` advance the queue's clock where they are accepted; an instant before it is refused under 8, and so is one
-/// above [`LATEST`](crate::LATEST). The timeouts don't advance it.
+/// Instants are durations since a start that you choose, not over 52 days back, from one [`Clock`](crate::Clock). `push`,
+/// `push_rtx`, `poll` and `poll_nack` advance the queue's clock where they are accepted; an instant before it is refused under
+/// 8, and so is one above [`LATEST`](crate::LATEST). The timeouts don't advance it.
 ///
 /// The numbers under "Errors" stand in the order in which they are checked. Every call looks through session and storage
 /// first and refuses under 16 what is damaged; since a queue owns both, that means that memory was overwritten. Calls that
@@ -172,7 +172,8 @@ impl Queue {
         }))
     }
 
-    /// The numbers to ask the sender for again, in ascending order of their extended numbers; empty where none is due.
+    /// The numbers to ask the sender for again, in ascending order of their extended numbers; empty where none is due. In
+    /// passthrough call it even if you send no NACKs: numbers are given up there by the count of their NACKs.
     ///
     /// # Errors
     ///

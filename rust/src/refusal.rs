@@ -60,7 +60,7 @@ const TABLE: [(Refusal, &str, &str); 16] = [
     (
         Refusal::Padding,
         "the datagram's padding counts 0 bytes, or more than follow the header",
-        "drop it; the sender or the way is damaging packets",
+        "drop it; the sender or the path is damaging packets",
     ),
     (
         Refusal::PayloadTooLarge,
@@ -96,7 +96,8 @@ const TABLE: [(Refusal, &str, &str); 16] = [
     (
         Refusal::GapsFull,
         "the packet would open more gaps than `max_gaps` allows",
-        "poll, so that old gaps are given up; raise `max_gaps`, or open a new session if the sender restarted",
+        "sorted: `poll` until nothing comes, then push the same datagram again; passthrough: call `poll_nack`, which gives numbers \
+         up; if it goes on, the path loses heavily or `max_gaps` is small",
     ),
     (
         Refusal::EntriesFull,
@@ -174,6 +175,7 @@ impl std::error::Error for Refusal {}
 #[cfg(test)]
 mod tests {
     use super::*;
+    use std::collections::BTreeSet;
 
     #[test]
     fn numbers_and_table_agree() {
@@ -187,11 +189,14 @@ mod tests {
     }
 
     #[test]
-    fn says_what_to_do() {
-        let text = Refusal::NoMedia.to_string();
-        assert_eq!(
-            text,
-            "refused under 10: a repair came before any media packet; drop it; at the start of a stream this is harmless"
-        );
+    fn each_says_its_number_and_has_a_meaning_of_its_own() {
+        let meanings: BTreeSet<_> = Refusal::all().map(Refusal::meaning).collect();
+        assert_eq!(meanings.len(), 16);
+        for (refusal, number) in Refusal::all().zip(1..) {
+            let text = refusal.to_string();
+            let words = text.strip_prefix(&format!("refused under {number}: ")).expect("the number stands first");
+            let remedy = words.strip_prefix(refusal.meaning()).expect("then the meaning");
+            assert_eq!(remedy.strip_prefix("; "), Some(refusal.remedy()));
+        }
     }
 }

@@ -3,7 +3,7 @@ use std::time::{Duration, Instant};
 /// The latest instant that a queue accepts: 2^52 - 1 nanoseconds, a little over 52 days after the clock's start.
 pub const LATEST: Duration = Duration::from_nanos((1 << 52) - 1);
 
-/// The clock of a box: instants as durations since its start, which is what every call of a [`Queue`](crate::Queue) takes.
+/// A clock: instants as durations since its start, which is what every call of a [`Queue`](crate::Queue) takes.
 ///
 /// One clock may serve any number of queues. It never goes back, as [`Instant`] does not.
 #[derive(Clone, Copy, Debug)]

@@ -1,5 +1,7 @@
-//! The structs of the boundary are written three times: in Rattle, in the C header, and in src/ffi.rs. Field by field they are the same.
+//! The structs of the boundary and the refusals are written three times: in Rattle, in the C header, and in this crate. Structs are the same
+//! field by field, refusals by name and number.
 
+use bizhgemu::Refusal;
 use std::collections::BTreeMap;
 use std::fs;
 use std::path::{Path, PathBuf};
@@ -81,4 +83,26 @@ fn the_library_has_the_same_structs() {
         }
     }
     assert_eq!(library, of_rust(include_str!("../src/ffi.rs")));
+}
+
+/// A line that gives a name its number, as (name, number), the name in Rust's form: `NO_RTX` is `NoRtx`.
+fn numbered(line: &str, before: &str, between: &str) -> Option<(String, u64)> {
+    let (name, number) = line.trim().strip_prefix(before)?.split_once(between)?;
+    let digits = number.split(|c: char| !c.is_ascii_digit()).next()?;
+    Some((camel_case(&name.to_lowercase()), digits.parse().ok()?))
+}
+
+#[test]
+fn the_refusals_have_the_same_names_and_numbers() {
+    let ours: Vec<_> = Refusal::all().map(|refusal| (format!("{refusal:?}"), refusal.number().into())).collect();
+    assert_eq!(ours.len(), 16);
+    let library = include_str!("../../crates/refusals/src/lib.rt").lines();
+    let library: Vec<_> = library.filter_map(|line| numbered(line, "pub const ", ": u64 = ")).collect();
+    assert_eq!(library, ours);
+    let (_, header) = include_str!("../../include/bizhgemu.h").split_once("enum bizhgemu_refusal {").unwrap();
+    let (header, _) = header.split_once("};").unwrap();
+    let header: Vec<_> = header.lines().filter_map(|line| numbered(line, "BIZHGEMU_", " = ")).collect();
+    let (accepted, header) = header.split_first().unwrap();
+    assert_eq!(accepted, &("Accepted".to_string(), 0));
+    assert_eq!(header, ours);
 }

@@ -1,7 +1,7 @@
 //! The public interface.
 
-use bizhgemu::{Config, Media, Mode, Queue, Refusal, Repair, Rtx};
-use std::time::Duration;
+use bizhgemu::{Clock, Config, Media, Mode, Queue, Refusal, Repair, Rtx};
+use std::time::{Duration, Instant};
 
 fn datagram(pt: u8, number: u16, timestamp: u32, ssrc: u32, payload: &[u8]) -> Vec<u8> {
     let mut bytes = vec![0x80, pt];
@@ -87,6 +87,29 @@ fn a_loss_is_nacked_and_repaired() -> Result<(), Refusal> {
 }
 
 #[test]
+fn jitter_is_told_and_the_smaller_timeout() -> Result<(), Refusal> {
+    let mut queue = Queue::open(&Config { ssrc: 1, initial_nack_delay: ms(200), ..Config::default() })?;
+    queue.push(ms(0), &datagram(0, 1, 0, 1, &[1]))?;
+    queue.push(ms(1000), &datagram(0, 3, 7840, 1, &[3]))?;
+    assert_eq!(queue.figures()?.jitter, Duration::from_micros(1250)); // 10 ticks of 8,000 a second
+    assert_eq!(queue.poll(ms(1000))?.expect("due long since").sequence_number, 1);
+    assert_eq!(queue.timeout_receive(ms(1000))?, Some(ms(100)));
+    assert_eq!(queue.timeout_nack(ms(1000))?, Some(ms(200)));
+    assert_eq!(queue.timeout(ms(1000))?, Some(ms(100)));
+    Ok(())
+}
+
+#[test]
+fn a_clock_counts_from_its_start() {
+    let before = Instant::now();
+    let clock = Clock::start();
+    let after = Instant::now();
+    assert_eq!(clock.at(before), Duration::ZERO);
+    assert!(clock.at(after + ms(5)) >= ms(5));
+    assert!(clock.now() >= clock.at(after));
+}
+
+#[test]
 fn settings_out_of_range_are_refused() {
     let faults: [fn(&mut Config); 14] = [
         |config| config.clock_rate = 0,
@@ -117,16 +140,18 @@ fn each_turned_bit_is_refused() -> Result<(), Refusal> {
     let mut queue = Queue::open(&Config { ssrc: 1, ..Config::default() })?;
     queue.push(ms(10), &datagram(0, 1, 0, 1, &[1]))?;
     let good = datagram(0, 2, 160, 1, &[2]);
-    for bit in 0..64 {
-        let mut bytes = good.clone();
-        let byte = [0, 1, 8, 9, 10, 11, 0, 1][bit / 8];
-        bytes[byte] ^= 1 << (bit % 8);
-        if byte == 0 && bit % 8 < 6 || byte == 1 && bit % 8 == 7 {
-            continue; // padding, extension, CSRC count and marker may be otherwise
+    // padding, extension, CSRC count and marker may be otherwise
+    let head = [(0, 6..8, Refusal::Version), (1, 0..7, Refusal::PayloadType)];
+    let sender = (8..12).map(|byte| (byte, 0..8, Refusal::Ssrc));
+    for (byte, bits, refusal) in head.into_iter().chain(sender) {
+        for bit in bits {
+            let mut bytes = good.clone();
+            bytes[byte] ^= 1 << bit;
+            assert_eq!(queue.push(ms(20), &bytes), Err(refusal), "byte {byte}, bit {bit}");
         }
-        assert!(queue.push(ms(20), &bytes).is_err(), "bit {bit}");
     }
     assert_eq!(queue.push(ms(9), &good), Err(Refusal::Clock));
     assert_eq!(queue.push_rtx(ms(20), &good), Err(Refusal::NoRtx));
+    assert_eq!(queue.push(ms(20), &good)?, Media::Queued);
     Ok(())
 }
