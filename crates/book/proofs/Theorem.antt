@@ -226,6 +226,10 @@ unfolding call
 made-left {c} (opening t {u = u} {s = s} o) = let e = opened-is c t u s o in subst (Left c) (e .1) (left-start c t (e .0))
 made-left {c} (further {x = x} k m e) = subst (λ (d : Done). Left c (after c x k (made-left m) d)) e (left-call c x k (made-left m))
 
+-- check 16 passes what stands there
+pub made-sound : {c : Config} {ks : List Call} {x : Run} → Made c ks x → sessionRefusal (x .stored) ≡ 0
+made-sound m = made-left m .sound
+
 pub every-run : EveryRun
 every-run =
     record {

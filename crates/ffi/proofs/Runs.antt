@@ -1,11 +1,14 @@
 -- Calls made through the boundary are calls of the queue: each leaves words that stand for the session that the queue's call leaves, so the
 -- theorem over runs of the queue's calls holds of them.
 use mathlib.Core.Path.{_≡_, refl, sym, ap, _∙_}
-use mathlib.Core.Bool.{Bool, true, false, cond}
+use mathlib.Core.Bool.{Bool, true, false, _&&_, cond}
 use mathlib.Core.List.{List, [], _∷_, _++_}
 use Prim.Native.Nat.{ℕ, zero, suc}
 use native.Mathlib.Omega.{arith}
 use lib.Dec.{eqb}
+use lib.ListN.{length}
+use lib.Ieee.Bits.{is-true}
+use lib.Ieee.Fits.{and-l, and-r}
 use borrow.Author.Tests.{eqb-true}
 use Rattle.refusals.specs.Refusals.{SETTINGS}
 use Rattle.stats.specs.declared.OptRtxStats.{OptRtxStats}
@@ -19,29 +22,33 @@ use Rattle.model.specs.Poll.{goingOut}
 use Rattle.model.specs.Storage.{Storage, Stored, parse, write}
 use Rattle.model.specs.Calls as Calls
 use Rattle.model.specs.Calls.{Answer, Call, poll, taken, handed, nackAnswer, answered}
-use Rattle.model.specs.Table.{refusal, openingRefusal}
+use Rattle.model.specs.Valid.{countsFit, queueSound, listsSound, sound}
+use Rattle.model.specs.Table.{configValid, sessionRefusal, refusal, openingRefusal}
 use Rattle.model.specs.Did as Did
 use Rattle.model.specs.Did.{Done, did, accepted, turnedBack, opened}
 use Rattle.model.specs.Contract.{Opens, Does}
 use Rattle.model.proofs.Laid.{parse-entries, parse-gaps, parse-remembered}
+use Rattle.model.proofs.SoundCalls.{sound-session}
+use Rattle.model.proofs.SoundTest.{sound-to}
 use Rattle.book.specs.Book as B
 use Rattle.book.specs.Book.{Heard, empty}
 use Rattle.book.specs.Claim.{hear, given, Run, call}
 use Rattle.book.specs.Code as Code
-use Rattle.book.proofs.Theorem.{every-run}
+use Rattle.book.proofs.Theorem.{made-sound, every-run}
 use Rattle.ffi_words.specs.declared.ConfigWords.{ConfigWords}
 use Rattle.ffi_words.specs.declared.SessionWords.{SessionWords}
 use Rattle.ffi_words.specs.declared.answers.Opened.{Opened}
 use Rattle.ffi_words.specs.declared.answers.Pushed.{Pushed}
 use Rattle.ffi_words.specs.declared.answers.Polled.{Polled}
 use Rattle.ffi_words.specs.declared.answers.PolledNack.{PolledNack}
+use Rattle.ffi_words.specs.declared.figures.Figures.{Figures}
 use Rattle.ffi_words.specs.declared.figures.Timeout.{Timeout}
 use Rattle.ffi_words.specs.declared.figures.RtxStats.{RtxStats}
 use Rattle.ffi_words.specs.declared.figures.Highest.{Highest}
-use Rattle.ffi_words.specs.Words.{configReadable, readable, configOf, sessionOf}
+use Rattle.ffi_words.specs.Words.{configReadable, readable, configOf, queueOf, sessionOf}
 use Rattle.ffi_words.specs.Told.{refusalIn, packetIn, optWords, valueOf, packetWords, statsWords, openTold, pushed, polled, polledNack, timeoutTold, statsTold, highestTold}
-use Rattle.ffi.specs.Exported.{standsFor, Given, unread, told, called, Gives, alone, openedBy, openedWords, words, ReadAs}
-use Rattle.ffi.specs.Runs.{heardIn, numbersIn, nextRun, Exported, push, push-rtx, polls, polls-nack, receive-timeout, nack-timeout, repair-figures, highest-number, MadeInWords, opening, further, EveryRunInWords}
+use Rattle.ffi.specs.Exported.{standsFor, Given, unread, told, called, Gives, alone, openedBy, openedWords, words, ReadAs, figuresOf, queueFigures, figures}
+use Rattle.ffi.specs.Runs.{heardIn, numbersIn, nextRun, Exported, push, push-rtx, polls, polls-nack, receive-timeout, nack-timeout, repair-figures, highest-number, MadeInWords, opening, further, looked, EveryRunInWords}
 use Rattle.ffi.proofs.Follows.{no-refusal as no-refusal-in, follows}
 
 -- ---- calls that give words back
@@ -233,6 +240,31 @@ module _ {c : ConfigWords} {ks : List Call} {w v : SessionWords} {u : Storage} {
 stands : {c : ConfigWords} {ks : List Call} {w : SessionWords} {x : Run} → MadeInWords c ks w x → Stands c ks w x
 stands (opening t e z) = at-opening t e z
 stands (further k m e) = at-call k (stands m) e
+stands (looked m e) = stands m
+
+-- ---- the figures
+
+-- of a session that check 16 passes they are those of its queue
+figures-are : (w : SessionWords) (t : Storage) → readable w ≡ true → sessionRefusal (standsFor w t) ≡ 0 → figures w ≡ figuresOf (queueOf w)
+unfolding figures queueFigures parse sessionOf sound
+figures-are w t r z =
+    let s = parse (standsFor w t) in
+    let h = sound-session (standsFor w t) z in
+    let fit = countsFit (s .queue .config .settings) (length (s .entries)) (length (s .gaps)) (length (s .remembered)) in
+    let q = and-l (queueSound (s .queue)) (listsSound s) (and-r fit (queueSound (s .queue) && listsSound s) (sound-to s h)) in
+    rw (r, is-true (configValid (queueOf w .config)) (h .queue-in .config-in), is-true (queueSound (queueOf w)) q)
+
+module _ {c : ConfigWords} {ks : List Call} {w : SessionWords} {x : Run} (s : Stands c ks w x) where
+  told-are : figures w ≡ figuresOf (queueOf w)
+  told-are = figures-are w (x .stored .storage) (s .readable-words) (rw (← s .stored-is) (made-sound (s .made)))
+
+  lost-told : queueOf w .counters .lost ≡ length (x .book .lost)
+  unfolding parse sessionOf
+  lost-told = ap (λ (m : Stored). parse m .queue .counters .lost) (sym (s .stored-is)) ∙ every-run .holds (configOf c) ks x (s .made) .lost-counted
+
+  tells : {r : Figures} → r ≡ figures w → (r .refusal ≡ 0) × (r .«packets_lost» ≡ length (x .book .lost))
+  unfolding figuresOf
+  tells e = rw (e, told-are) (refl, lost-told)
 
 pub every-run-in-words : EveryRunInWords
 every-run-in-words =
@@ -240,4 +272,5 @@ every-run-in-words =
       holds = λ c ks w x m. every-run .holds (configOf c) ks x (stands m .made);
       steps = λ c ks w x k m. every-run .steps (configOf c) ks x k (stands m .made);
       same = λ m e. same-call _ (stands m) e;
+      figures-told = λ m e. tells (stands m) e;
     }

@@ -5,6 +5,7 @@ use mathlib.Core.Bool.{cond}
 use mathlib.Core.List.{List, [], _∷_, _++_}
 use Prim.Native.Nat.{ℕ}
 use lib.Dec.{eqb}
+use lib.ListN.{length}
 use Rattle.model.specs.declared.Config.{Config}
 use Rattle.model.specs.Storage.{Storage}
 use Rattle.model.specs.Calls.{Call, media, repair, poll, pollNack, timeoutReceive, timeoutNack, rtxStats, highestReceived}
@@ -16,12 +17,13 @@ use Rattle.ffi_words.specs.declared.answers.Opened.{Opened}
 use Rattle.ffi_words.specs.declared.answers.Pushed.{Pushed}
 use Rattle.ffi_words.specs.declared.answers.Polled.{Polled}
 use Rattle.ffi_words.specs.declared.answers.PolledNack.{PolledNack}
+use Rattle.ffi_words.specs.declared.figures.Figures.{Figures}
 use Rattle.ffi_words.specs.declared.figures.Timeout.{Timeout}
 use Rattle.ffi_words.specs.declared.figures.RtxStats.{RtxStats}
 use Rattle.ffi_words.specs.declared.figures.Highest.{Highest}
 use Rattle.ffi_words.specs.Words.{configOf}
 use Rattle.ffi_words.specs.Told.{pushed, polled, polledNack, timeoutTold, statsTold, highestTold}
-use Rattle.ffi.specs.Exported.{standsFor, Gives, alone, openedWords}
+use Rattle.ffi.specs.Exported.{standsFor, Gives, alone, openedWords, figures}
 
 -- ---- what the caller is told, by the words alone
 
@@ -67,6 +69,9 @@ pub data MadeInWords (c : ConfigWords) : List Call → SessionWords → Run → 
   further : {ks : List Call} {w v : SessionWords} {u : Storage} {heard : Heard} {numbers : List ℕ} {x : Run} (k : Call)
       → MadeInWords c ks w x → Exported w (x .stored .storage) k v u heard numbers
       → MadeInWords c (ks ++ (k ∷ [])) v (nextRun (configOf c) x k v u heard numbers)
+  -- "A call added later belongs to the list too and counts as the calls it equals, if any": `bizhgemu_figures` gave r, by its contract. It
+  -- equals no call of the list and leaves words, storage and book as they are.
+  looked : {ks : List Call} {w : SessionWords} {x : Run} {r : Figures} → MadeInWords c ks w x → r ≡ figures w → MadeInWords c ks w x
 
 pub record EveryRunInWords : Type 0 where
   pub holds : (c : ConfigWords) (ks : List Call) (w : SessionWords) (x : Run) → MadeInWords c ks w x → Holds (configOf c) x
@@ -75,3 +80,6 @@ pub record EveryRunInWords : Type 0 where
   pub same : {c : ConfigWords} {ks : List Call} {w v : SessionWords} {u : Storage} {heard : Heard} {numbers : List ℕ} {x : Run} {k : Call}
       → MadeInWords c ks w x → Exported w (x .stored .storage) k v u heard numbers
       → call (configOf c) x k ≡ nextRun (configOf c) x k v u heard numbers
+  -- what `bizhgemu_figures` tells wherever such a run stands: it is not refused, and its lost count is the number of the book's lost ones
+  pub figures-told : {c : ConfigWords} {ks : List Call} {w : SessionWords} {x : Run} {r : Figures} → MadeInWords c ks w x → r ≡ figures w
+      → (r .refusal ≡ 0) × (r .«packets_lost» ≡ length (x .book .lost))
