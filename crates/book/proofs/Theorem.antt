@@ -8,7 +8,7 @@ use Prim.Native.Nat.{ℕ, suc, _+_, _-_}
 use native.Mathlib.Omega.{arith}
 use lib.Dec.{T, eqb, eqb→eq}
 use borrow.Author.Tests.{eq-eqb, eqb-true}
-use lib.ListN.{length}
+use lib.ListN.{length, length-append}
 use Rattle.config.specs.declared.RtpInboundQueueMode.{RtpInboundQueueMode}
 use Rattle.config.specs.declared.RtpInboundQueueMode.the-variants.{Passthrough, SortedQueue}
 use Rattle.model.specs.declared.Config.{Config}
@@ -76,6 +76,7 @@ record Inv (c : Config) (s : State) (b : Book) (returned : List ℕ) : Type 0 wh
   same : Same c s b
   past : PastOf (c .settings .mode) (b .handed) s
   returned-are : returned ≡ map (lowBits 16) (b .handed)
+  lost-are : s .queue .counters .lost ≡ length (b .lost)
 
 inv-new : (c : Config) → Inv c (newState c) empty []
 unfolding newState newQueue empty B.highest highestOf numberOf
@@ -85,15 +86,18 @@ inv-new c =
       same = record { config = refl; entries = refl; gaps = refl; highest = refl; estimate = refl; remembered = refl };
       past = past-none (c .settings .mode);
       returned-are = refl;
+      lost-are = refl;
     }
 
 inv-taken : (k : Call) {c : Config} {s : State} {b : Book} {r : List ℕ} → ListsOf s → Inv c s b r → Inv c (taken k s) (enter c k (hear (answered k s)) b) (r ++ given (answered k s))
 inv-taken k {c} {s} {b} {r} f i =
+    let m = moved-taken k (i .same) in
     record {
       tally = tally-enter c k (hear (answered k s)) b (i .tally);
       same = same-taken k (i .same) f (i .past);
       past = past-taken k (i .same) f (i .past);
-      returned-are = rw (i .returned-are, given-out, moved-taken k (i .same) .handed) (sym (mathlib.Core.List.map-append _ (b .handed) (outOf k s)));
+      returned-are = rw (i .returned-are, given-out, m .handed) (sym (mathlib.Core.List.map-append _ (b .handed) (outOf k s)));
+      lost-are = omega (arith, m .counted, i .lost-are, ap length (m .lost), length-append (b .lost) (m .newly));
     }
 
 in-order : (mode : RtpInboundQueueMode) (s : State) (out : List ℕ) → PastOf mode out s → InOrder mode out
@@ -109,6 +113,7 @@ holds {c} {x} f i =
       entries = i .same .entries;
       gaps = i .same .gaps;
       highest-number = i .same .highest;
+      lost-counted = i .lost-are;
       returned = i .returned-are;
       in-order = in-order (c .settings .mode) (parse (x .stored)) (x .book .handed) (i .past);
       waiting-ascends = subst (λ (l : List ℕ). T (ascends l)) (i .same .entries) (ascends-of-rising _ _ (f .lists-in .entries-rise));
@@ -220,6 +225,10 @@ made-left : {c : Config} {ks : List Call} {x : Run} → Made c ks x → Left c x
 unfolding call
 made-left {c} (opening t {u = u} {s = s} o) = let e = opened-is c t u s o in subst (Left c) (e .1) (left-start c t (e .0))
 made-left {c} (further {x = x} k m e) = subst (λ (d : Done). Left c (after c x k (made-left m) d)) e (left-call c x k (made-left m))
+
+-- check 16 passes what stands there
+pub made-sound : {c : Config} {ks : List Call} {x : Run} → Made c ks x → sessionRefusal (x .stored) ≡ 0
+made-sound m = made-left m .sound
 
 pub every-run : EveryRun
 every-run =

@@ -86,6 +86,8 @@ pub record Holds (c : Config) (x : Run) : Type 0 where
   pub entries : entryNumbers (parse (x .stored) .entries) ≡ x .book .waiting
   pub gaps : parse (x .stored) .gaps ≡ x .book .missing
   pub highest-number : highestOf (parse (x .stored) .queue .last) ≡ B.highest (x .book .span)
+  -- the lost count is the number of the book's lost ones: "none at the opening", and each call adds the newly lost (`Step.counted`)
+  pub lost-counted : parse (x .stored) .queue .counters .lost ≡ length (x .book .lost)
   -- "and `poll` returned the book's handed-out ones, in order"
   pub returned : x .returned ≡ map (lowBits 16) (x .book .handed)
   pub in-order : InOrder (c .settings .mode) (x .book .handed)

@@ -1,104 +1,53 @@
 -- Calls made through the boundary are calls of the queue: each leaves words that stand for the session that the queue's call leaves, so the
 -- theorem over runs of the queue's calls holds of them.
 use mathlib.Core.Path.{_≡_, refl, sym, ap, _∙_}
-use mathlib.Core.Bool.{Bool, true, false, cond}
+use mathlib.Core.Bool.{Bool, true, false, _&&_, cond}
 use mathlib.Core.List.{List, [], _∷_, _++_}
 use Prim.Native.Nat.{ℕ, zero, suc}
 use native.Mathlib.Omega.{arith}
 use lib.Dec.{eqb}
+use lib.ListN.{length}
+use lib.Ieee.Bits.{is-true}
+use lib.Ieee.Fits.{and-l, and-r}
 use borrow.Author.Tests.{eqb-true}
 use Rattle.refusals.specs.Refusals.{SETTINGS}
 use Rattle.stats.specs.declared.OptRtxStats.{OptRtxStats}
 use Rattle.stats.specs.declared.OptRtxStats.the-variants as OptRtxStats
 use Rattle.model.specs.declared.Queue.{Queue}
-use Rattle.model.specs.declared.Session.{Session}
 use Rattle.model.specs.Records.{Entry, State, newState}
 use Rattle.model.specs.Rules.{waits}
 use Rattle.model.specs.Push.{mediaEntry, mediaPlace}
 use Rattle.model.specs.Poll.{goingOut}
 use Rattle.model.specs.Storage.{Storage, Stored, parse, write}
 use Rattle.model.specs.Calls as Calls
-use Rattle.model.specs.Calls.{Answer, Call, poll, taken, handed, nackAnswer, answered}
-use Rattle.model.specs.Table.{refusal, openingRefusal}
+use Rattle.model.specs.Calls.{Answer, Call, poll, handed, nackAnswer, answered}
+use Rattle.model.specs.Valid.{countsFit, queueSound, listsSound, sound}
+use Rattle.model.specs.Table.{configValid, sessionRefusal, refusal, openingRefusal}
 use Rattle.model.specs.Did as Did
-use Rattle.model.specs.Did.{Done, did, accepted, turnedBack, opened}
+use Rattle.model.specs.Did.{did, accepted, turnedBack, opened}
 use Rattle.model.specs.Contract.{Opens, Does}
-use Rattle.model.proofs.Laid.{parse-entries, parse-gaps, parse-remembered}
+use Rattle.model.proofs.SoundCalls.{sound-session}
+use Rattle.model.proofs.SoundTest.{sound-to}
 use Rattle.book.specs.Book as B
 use Rattle.book.specs.Book.{Heard, empty}
 use Rattle.book.specs.Claim.{hear, given, Run, call}
 use Rattle.book.specs.Code as Code
-use Rattle.book.proofs.Theorem.{every-run}
+use Rattle.book.proofs.Theorem.{made-sound, every-run}
 use Rattle.ffi_words.specs.declared.ConfigWords.{ConfigWords}
 use Rattle.ffi_words.specs.declared.SessionWords.{SessionWords}
 use Rattle.ffi_words.specs.declared.answers.Opened.{Opened}
 use Rattle.ffi_words.specs.declared.answers.Pushed.{Pushed}
-use Rattle.ffi_words.specs.declared.answers.Polled.{Polled}
 use Rattle.ffi_words.specs.declared.answers.PolledNack.{PolledNack}
+use Rattle.ffi_words.specs.declared.figures.Figures.{Figures}
 use Rattle.ffi_words.specs.declared.figures.Timeout.{Timeout}
 use Rattle.ffi_words.specs.declared.figures.RtxStats.{RtxStats}
 use Rattle.ffi_words.specs.declared.figures.Highest.{Highest}
-use Rattle.ffi_words.specs.Words.{configReadable, readable, configOf, sessionOf}
+use Rattle.ffi_words.specs.Words.{configReadable, readable, configOf, queueOf, sessionOf}
 use Rattle.ffi_words.specs.Told.{refusalIn, packetIn, optWords, valueOf, packetWords, statsWords, openTold, pushed, polled, polledNack, timeoutTold, statsTold, highestTold}
-use Rattle.ffi.specs.Exported.{standsFor, Given, unread, told, called, Gives, alone, openedBy, openedWords, words, ReadAs}
-use Rattle.ffi.specs.Runs.{heardIn, numbersIn, nextRun, Exported, push, push-rtx, polls, polls-nack, receive-timeout, nack-timeout, repair-figures, highest-number, MadeInWords, opening, further, EveryRunInWords}
+use Rattle.ffi.specs.Exported.{standsFor, Given, told, called, Gives, alone, openedBy, openedWords, figuresOf, queueFigures, figures}
+use Rattle.ffi.specs.Follows.{heardIn, numbersIn, ExportedCall, push, push-rtx, polls, polls-nack, receive-timeout, nack-timeout, repair-figures, highest-number}
+use Rattle.ffi.specs.Runs.{nextRun, MadeInWords, opening, further, looked, EveryRunInWords}
 use Rattle.ffi.proofs.Follows.{no-refusal as no-refusal-in, follows}
-
--- ---- calls that give words back
-
-module _ {A : Type 0} (tell : Answer → SessionWords → A) (k : Call) (w : SessionWords) (t : Storage) where
-  same-storage : (b : Bool) (d : Done) → cond b (told tell w d) (unread tell k w t) .storage ≡ cond b (told words w d) (unread words k w t) .storage
-  unfolding told unread
-  same-storage false d = refl
-  same-storage true d = refl
-
-  storage-is : {u : Storage} {r : A} {output : List ℕ} → Gives tell k w t r u output → called words k w t .storage ≡ u
-  unfolding called
-  storage-is g = sym (same-storage (readable w) (did k (standsFor w t))) ∙ ap (λ (x : Given A). x .storage) g
-
-module _ {A : Type 0} (tell : Answer → SessionWords → A) (session : A → SessionWords) (kept : (a : Answer) (w : SessionWords) → session (tell a w) ≡ w) (k : Call) (w : SessionWords) (t : Storage) where
-  same-words : (b : Bool) (d : Done) → session (cond b (told tell w d) (unread tell k w t) .value) ≡ cond b (told words w d) (unread words k w t) .value
-  unfolding told unread
-  same-words false d = kept _ w
-  same-words true d = kept _ _
-
-  gives-leaves : {u : Storage} {r : A} {output : List ℕ} → readable w ≡ true → Gives tell k w t r u output → ReadAs (session r) u (did k (standsFor w t) .stored)
-  unfolding called
-  gives-leaves {u} {r} readable-w g =
-      let v-is : called words k w t .value ≡ session r = sym (same-words (readable w) (did k (standsFor w t))) ∙ ap (λ (x : Given A). session (x .value)) g in
-      let u-is : called words k w t .storage ≡ u = storage-is tell k w t g in
-      rw (← v-is, ← u-is) (follows .at-call k w t readable-w)
-
--- ---- calls that only read
-
-same-session : (m : Stored) → write (parse m) .session ≡ m .session
-unfolding write parse
-same-session m = rw (parse-entries m, parse-gaps m, parse-remembered m)
-
-module _ {A : Type 0} (tell : Answer → A) (k : Call) (reads : (m : Stored) → taken k (parse m) ≡ parse m) (w : SessionWords) (t : Storage) where
-  left-session : (b : Bool) → cond b (accepted k (parse (standsFor w t))) (turnedBack (refusal k (standsFor w t)) k (standsFor w t)) .stored .session ≡ sessionOf w
-  unfolding accepted turnedBack
-  left-session false = refl
-  left-session true = rw (reads (standsFor w t)) (same-session (standsFor w t))
-
-  read-leaves : {u : Storage} {r : A} {output : List ℕ} → readable w ≡ true → Gives (alone tell) k w t r u output → ReadAs w u (did k (standsFor w t) .stored)
-  unfolding did
-  read-leaves {u} readable-w g =
-      let m = standsFor w t in
-      let u-is : did k m .stored .storage ≡ u = sym (ap (λ (x : Stored). x .storage) (follows .at-call k w t readable-w .1)) ∙ storage-is (alone tell) k w t g in
-      let s-is : did k m .stored .session ≡ sessionOf w = left-session (eqb (refusal k m) 0) in
-      (readable-w, sym (ap (λ (s : Session). record { session = s; storage = did k m .stored .storage }) s-is ∙ ap (λ (y : Storage). standsFor w y) u-is))
-
-exported-leaves : {w v : SessionWords} {t u : Storage} {k : Call} {h : Heard} {ns : List ℕ} → readable w ≡ true → Exported w t k v u h ns → ReadAs v u (did k (standsFor w t) .stored)
-unfolding pushed polled polledNack taken
-exported-leaves {w} {t = t} r (push g) = gives-leaves pushed (λ (p : Pushed). p .session) (λ a y. refl) _ w t r g
-exported-leaves {w} {t = t} r (push-rtx g) = gives-leaves pushed (λ (p : Pushed). p .session) (λ a y. refl) _ w t r g
-exported-leaves {w} {t = t} r (polls g) = gives-leaves polled (λ (p : Polled). p .session) (λ a y. refl) _ w t r g
-exported-leaves {w} {t = t} r (polls-nack g) = gives-leaves polledNack (λ (p : PolledNack). p .session) (λ a y. refl) _ w t r g
-exported-leaves {w} {t = t} r (receive-timeout g) = read-leaves _ _ (λ m. refl) w t r g
-exported-leaves {w} {t = t} r (nack-timeout g) = read-leaves _ _ (λ m. refl) w t r g
-exported-leaves {w} {t = t} r (repair-figures g) = read-leaves _ _ (λ m. refl) w t r g
-exported-leaves {w} {t = t} r (highest-number g) = read-leaves _ _ (λ m. refl) w t r g
 
 -- ---- what the caller hears in the words is what the book hears of the queue's answer
 
@@ -163,7 +112,7 @@ unfolding statsWords
 stats-number n OptRtxStats.None = refl
 stats-number n (OptRtxStats.Some f) = refl
 
-exported-hears : {w v : SessionWords} {t u : Storage} {k : Call} {h : Heard} {ns : List ℕ} → readable w ≡ true → Exported w t k v u h ns → Hears (did k (standsFor w t) .answer) h ns
+exported-hears : {w v : SessionWords} {t u : Storage} {k : Call} {h : Heard} {ns : List ℕ} → readable w ≡ true → ExportedCall w t k v u h ns → Hears (did k (standsFor w t) .answer) h ns
 unfolding pushed polledNack timeoutTold statsTold highestTold answered hear given told
 exported-hears {w} {t = t} r (push g) = gives-hears pushed (λ (p : Pushed). p .refusal) (λ a y. refl) _ (media-hears _ _) w t r g
 exported-hears {w} {t = t} r (push-rtx g) = gives-hears pushed (λ (p : Pushed). p .refusal) (λ a y. refl) _ (λ s. (refl, refl)) w t r g
@@ -213,9 +162,9 @@ at-opening : {c : ConfigWords} (t : Storage) {u : Storage} {r : Opened} → open
     → Stands c [] (r .session) (record { stored = standsFor (r .session) u; book = empty; returned = [] })
 at-opening {c} t e z = let o = opens c t e z in record { made = Code.opening t (o .1); readable-words = o .0; stored-is = refl }
 
-module _ {c : ConfigWords} {ks : List Call} {w v : SessionWords} {u : Storage} {h : Heard} {ns : List ℕ} {x : Run} (k : Call) (s : Stands c ks w x) (e : Exported w (x .stored .storage) k v u h ns) where
+module _ {c : ConfigWords} {ks : List Call} {w v : SessionWords} {u : Storage} {h : Heard} {ns : List ℕ} {x : Run} (k : Call) (s : Stands c ks w x) (e : ExportedCall w (x .stored .storage) k v u h ns) where
   left : did k (x .stored) .stored ≡ standsFor v u
-  left = rw (s .stored-is) (sym (exported-leaves (s .readable-words) e .1))
+  left = rw (s .stored-is) (sym (follows .at-call (s .readable-words) e .1))
 
   heard : Hears (did k (x .stored) .answer) h ns
   heard = rw (s .stored-is) (exported-hears (s .readable-words) e)
@@ -224,7 +173,7 @@ module _ {c : ConfigWords} {ks : List Call} {w v : SessionWords} {u : Storage} {
   does = ap (λ (y : Stored). record { answer = did k (x .stored) .answer; stored = y; output = did k (x .stored) .output }) left
 
   at-call : Stands c (ks ++ (k ∷ [])) v (nextRun (configOf c) x k v u h ns)
-  at-call = record { made = rw (← heard .0, ← heard .1) (Code.further k (s .made) does); readable-words = exported-leaves (s .readable-words) e .0; stored-is = refl }
+  at-call = record { made = rw (← heard .0, ← heard .1) (Code.further k (s .made) does); readable-words = follows .at-call (s .readable-words) e .0; stored-is = refl }
 
   same-call : call (configOf c) x k ≡ nextRun (configOf c) x k v u h ns
   unfolding call
@@ -233,6 +182,31 @@ module _ {c : ConfigWords} {ks : List Call} {w v : SessionWords} {u : Storage} {
 stands : {c : ConfigWords} {ks : List Call} {w : SessionWords} {x : Run} → MadeInWords c ks w x → Stands c ks w x
 stands (opening t e z) = at-opening t e z
 stands (further k m e) = at-call k (stands m) e
+stands (looked m e) = stands m
+
+-- ---- the figures
+
+-- of a session that check 16 passes they are those of its queue
+figures-are : (w : SessionWords) (t : Storage) → readable w ≡ true → sessionRefusal (standsFor w t) ≡ 0 → figures w ≡ figuresOf (queueOf w)
+unfolding figures queueFigures parse sessionOf sound
+figures-are w t r z =
+    let s = parse (standsFor w t) in
+    let h = sound-session (standsFor w t) z in
+    let fit = countsFit (s .queue .config .settings) (length (s .entries)) (length (s .gaps)) (length (s .remembered)) in
+    let q = and-l (queueSound (s .queue)) (listsSound s) (and-r fit (queueSound (s .queue) && listsSound s) (sound-to s h)) in
+    rw (r, is-true (configValid (queueOf w .config)) (h .queue-in .config-in), is-true (queueSound (queueOf w)) q)
+
+module _ {c : ConfigWords} {ks : List Call} {w : SessionWords} {x : Run} (s : Stands c ks w x) where
+  told-are : figures w ≡ figuresOf (queueOf w)
+  told-are = figures-are w (x .stored .storage) (s .readable-words) (rw (← s .stored-is) (made-sound (s .made)))
+
+  lost-told : queueOf w .counters .lost ≡ length (x .book .lost)
+  unfolding parse sessionOf
+  lost-told = ap (λ (m : Stored). parse m .queue .counters .lost) (sym (s .stored-is)) ∙ every-run .holds (configOf c) ks x (s .made) .lost-counted
+
+  tells : {r : Figures} → r ≡ figures w → (r .refusal ≡ 0) × (r .«packets_lost» ≡ length (x .book .lost))
+  unfolding figuresOf
+  tells e = rw (e, told-are) (refl, lost-told)
 
 pub every-run-in-words : EveryRunInWords
 every-run-in-words =
@@ -240,4 +214,5 @@ every-run-in-words =
       holds = λ c ks w x m. every-run .holds (configOf c) ks x (stands m .made);
       steps = λ c ks w x k m. every-run .steps (configOf c) ks x k (stands m .made);
       same = λ m e. same-call _ (stands m) e;
+      figures-told = λ m e. tells (stands m) e;
     }

@@ -1,7 +1,7 @@
 -- The exported functions: `did` and `opened` of `model`, on words. Words that cannot be read are refused, and nothing changes:
 -- under 1 at the opening, under 16 in a call.
 use mathlib.Core.Path.{_≡_}
-use mathlib.Core.Bool.{true, _&&_, cond}
+use mathlib.Core.Bool.{_&&_, cond}
 use mathlib.Core.List.{List, []}
 use Prim.Native.Nat.{ℕ}
 use Rattle.refusals.specs.Refusals.{SETTINGS, SESSION}
@@ -9,11 +9,10 @@ use Rattle.jitter.specs.Interarrival.{jitterGet}
 use Rattle.config.specs.Valid.{depthValid, gapsValid}
 use Rattle.model.specs.declared.Queue.{Queue}
 use Rattle.model.specs.Valid.{queueSound}
-use Rattle.model.specs.Records.{newState}
-use Rattle.model.specs.Storage.{Storage, Stored, write, entriesLength, payloadsLength, gapsLength, rememberedLength}
+use Rattle.model.specs.Storage.{Storage, Stored, entriesLength, payloadsLength, gapsLength, rememberedLength}
 use Rattle.model.specs.Calls as Calls
 use Rattle.model.specs.Calls.{Answer, Call, outputOf}
-use Rattle.model.specs.Table.{configValid, openingRefusal}
+use Rattle.model.specs.Table.{configValid}
 use Rattle.model.specs.Did as Did
 use Rattle.model.specs.Did.{Done, did, opened}
 use Rattle.ffi_words.specs.declared.ConfigWords.{ConfigWords}
@@ -59,23 +58,6 @@ openedBy o = record { value = openTold (o .answer); storage = o .storage; output
 
 unfoldable pub openedWords : ConfigWords → Storage → Given Opened
 openedWords c t = openedBy (cond (configReadable c) (opened (configOf c) t) (record { answer = Did.refused SETTINGS; storage = t }))
-
--- ---- call after call
-
--- the words that come back
-abbrev pub words : Answer → SessionWords → SessionWords
-words a w = w
-
--- These words are readable, and read beside this storage they are m.
-abbrev pub ReadAs : SessionWords → Storage → Stored → Type 0
-ReadAs w t m = (readable w ≡ true) × (standsFor w t ≡ m)
-
--- Call after call on words is a run of the queue's calls: what comes back stands for the session that is left, refused or not.
-pub record Follows : Type 0 where
-  pub at-opening : (c : ConfigWords) (t : Storage) → configReadable c ≡ true → openingRefusal (configOf c) t ≡ 0
-      → let g = openedWords c t in ReadAs (g .value .session) (g .storage) (write (newState (configOf c)))
-  pub at-call : (c : Call) (w : SessionWords) (t : Storage) → readable w ≡ true
-      → let g = called words c w t in ReadAs (g .value) (g .storage) (did c (standsFor w t) .stored)
 
 -- ---- two readings without storage
 

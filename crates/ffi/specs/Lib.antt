@@ -1,3 +1,4 @@
 -- What the exported functions give.
 pub mod Exported
+pub mod Follows
 pub mod Runs

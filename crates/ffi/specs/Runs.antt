@@ -1,59 +1,21 @@
 -- Demand 3 through the boundary: exported calls made one after the other, on words that the caller keeps and storage that it lends. The book
 -- hears what the caller is told, and `returned` has the numbers that it got.
 use mathlib.Core.Path.{_≡_}
-use mathlib.Core.Bool.{cond}
 use mathlib.Core.List.{List, [], _∷_, _++_}
 use Prim.Native.Nat.{ℕ}
-use lib.Dec.{eqb}
+use lib.ListN.{length}
 use Rattle.model.specs.declared.Config.{Config}
 use Rattle.model.specs.Storage.{Storage}
-use Rattle.model.specs.Calls.{Call, media, repair, poll, pollNack, timeoutReceive, timeoutNack, rtxStats, highestReceived}
-use Rattle.book.specs.Book.{Heard, refused, accepted, empty, enter}
+use Rattle.model.specs.Calls.{Call}
+use Rattle.book.specs.Book.{Heard, empty, enter}
 use Rattle.book.specs.Claim.{Run, call, Holds, Step}
 use Rattle.ffi_words.specs.declared.ConfigWords.{ConfigWords}
 use Rattle.ffi_words.specs.declared.SessionWords.{SessionWords}
 use Rattle.ffi_words.specs.declared.answers.Opened.{Opened}
-use Rattle.ffi_words.specs.declared.answers.Pushed.{Pushed}
-use Rattle.ffi_words.specs.declared.answers.Polled.{Polled}
-use Rattle.ffi_words.specs.declared.answers.PolledNack.{PolledNack}
-use Rattle.ffi_words.specs.declared.figures.Timeout.{Timeout}
-use Rattle.ffi_words.specs.declared.figures.RtxStats.{RtxStats}
-use Rattle.ffi_words.specs.declared.figures.Highest.{Highest}
+use Rattle.ffi_words.specs.declared.figures.Figures.{Figures}
 use Rattle.ffi_words.specs.Words.{configOf}
-use Rattle.ffi_words.specs.Told.{pushed, polled, polledNack, timeoutTold, statsTold, highestTold}
-use Rattle.ffi.specs.Exported.{standsFor, Gives, alone, openedWords}
-
--- ---- what the caller is told, by the words alone
-
--- refused, or accepted and whether a packet was handed out: by the words `refusal` and `has_packet`, or 0 where a call has no such word
-unfoldable pub heardIn : (refusal packets : ℕ) → Heard
-heardIn refusal packets = cond (eqb refusal 0) (accepted (eqb packets 1)) refused
-
--- the 16-bit number of the packet that `poll` handed out, if it did
-unfoldable pub numbersIn : Polled → List ℕ
-numbersIn r = cond (eqb (r .«has_packet») 1) (r .packet .«sequence_number» ∷ []) []
-
--- ---- calls
-
--- The contract of an exported call on the words w and the storage t, with what the caller then has: the words, the storage, what it heard and
--- the numbers that it got. A call that only reads leaves the words with the caller.
-pub data Exported (w : SessionWords) (t : Storage) : Call → SessionWords → Storage → Heard → List ℕ → Type 0 where
-  push : {now : ℕ} {d : List ℕ} {r : Pushed} {u : Storage} → Gives pushed (media now d) w t r u []
-      → Exported w t (media now d) (r .session) u (heardIn (r .refusal) 0) []
-  push-rtx : {now : ℕ} {d : List ℕ} {r : Pushed} {u : Storage} → Gives pushed (repair now d) w t r u []
-      → Exported w t (repair now d) (r .session) u (heardIn (r .refusal) 0) []
-  polls : {now : ℕ} {out left : List ℕ} {r : Polled} {u : Storage} → Gives polled (poll now out) w t r u left
-      → Exported w t (poll now out) (r .session) u (heardIn (r .refusal) (r .«has_packet»)) (numbersIn r)
-  polls-nack : {now : ℕ} {out left : List ℕ} {r : PolledNack} {u : Storage} → Gives polledNack (pollNack now out) w t r u left
-      → Exported w t (pollNack now out) (r .session) u (heardIn (r .refusal) 0) []
-  receive-timeout : {now : ℕ} {r : Timeout} {u : Storage} → Gives (alone timeoutTold) (timeoutReceive now) w t r u []
-      → Exported w t (timeoutReceive now) w u (heardIn (r .refusal) 0) []
-  nack-timeout : {now : ℕ} {r : Timeout} {u : Storage} → Gives (alone timeoutTold) (timeoutNack now) w t r u []
-      → Exported w t (timeoutNack now) w u (heardIn (r .refusal) 0) []
-  repair-figures : {r : RtxStats} {u : Storage} → Gives (alone statsTold) rtxStats w t r u []
-      → Exported w t rtxStats w u (heardIn (r .refusal) 0) []
-  highest-number : {r : Highest} {u : Storage} → Gives (alone highestTold) highestReceived w t r u []
-      → Exported w t highestReceived w u (heardIn (r .refusal) 0) []
+use Rattle.ffi.specs.Exported.{standsFor, openedWords, figures}
+use Rattle.ffi.specs.Follows.{ExportedCall}
 
 -- x after one more call, by what the caller then has
 abbrev pub nextRun : Config → Run → Call → SessionWords → Storage → Heard → List ℕ → Run
@@ -65,13 +27,19 @@ pub data MadeInWords (c : ConfigWords) : List Call → SessionWords → Run → 
   opening : (t : Storage) {u : Storage} {r : Opened} → openedWords c t ≡ record { value = r; storage = u; output = [] } → r .refusal ≡ 0
       → MadeInWords c [] (r .session) (record { stored = standsFor (r .session) u; book = empty; returned = [] })
   further : {ks : List Call} {w v : SessionWords} {u : Storage} {heard : Heard} {numbers : List ℕ} {x : Run} (k : Call)
-      → MadeInWords c ks w x → Exported w (x .stored .storage) k v u heard numbers
+      → MadeInWords c ks w x → ExportedCall w (x .stored .storage) k v u heard numbers
       → MadeInWords c (ks ++ (k ∷ [])) v (nextRun (configOf c) x k v u heard numbers)
+  -- "A call added later belongs to the list too and counts as the calls it equals, if any": `bizhgemu_figures` gave r, by its contract. It
+  -- equals no call of the list and leaves words, storage and book as they are.
+  looked : {ks : List Call} {w : SessionWords} {x : Run} {r : Figures} → MadeInWords c ks w x → r ≡ figures w → MadeInWords c ks w x
 
 pub record EveryRunInWords : Type 0 where
   pub holds : (c : ConfigWords) (ks : List Call) (w : SessionWords) (x : Run) → MadeInWords c ks w x → Holds (configOf c) x
   pub steps : (c : ConfigWords) (ks : List Call) (w : SessionWords) (x : Run) (k : Call) → MadeInWords c ks w x → Step (configOf c) x k
   -- what the queue's call leaves, of which `Step` speaks, is what the exported call leaves, with the book that heard the words
   pub same : {c : ConfigWords} {ks : List Call} {w v : SessionWords} {u : Storage} {heard : Heard} {numbers : List ℕ} {x : Run} {k : Call}
-      → MadeInWords c ks w x → Exported w (x .stored .storage) k v u heard numbers
+      → MadeInWords c ks w x → ExportedCall w (x .stored .storage) k v u heard numbers
       → call (configOf c) x k ≡ nextRun (configOf c) x k v u heard numbers
+  -- what `bizhgemu_figures` tells wherever such a run stands: it is not refused, and its lost count is the number of the book's lost ones
+  pub figures-told : {c : ConfigWords} {ks : List Call} {w : SessionWords} {x : Run} {r : Figures} → MadeInWords c ks w x → r ≡ figures w
+      → (r .refusal ≡ 0) × (r .«packets_lost» ≡ length (x .book .lost))

@@ -6,7 +6,8 @@ ghost use Rattle.model.specs.Calls as Calls;
 ghost use Rattle.model.specs.Contract.{lent, left};
 ghost use Rattle.ffi_words.specs.Told as Told;
 ghost use Rattle.ffi.specs.Exported as Exported;
-ghost use Rattle.ffi.specs.Exported.{Follows, Gives, alone, openedWords};
+ghost use Rattle.ffi.specs.Exported.{Gives, alone, openedWords};
+ghost use Rattle.ffi.specs.Follows.{Follows};
 ghost use Rattle.ffi.specs.Runs.{EveryRunInWords};
 use entries::ENTRY_WORDS;
 use entries::PAYLOAD_BYTES;
@@ -293,7 +294,7 @@ pub extern "C" fn bizhgemu_lengths(max_entries: usize, max_gaps: usize) -> Lengt
     }
 }
 
-// What comes back from one call, the next one takes up.
+// What the caller has after one call, the next one takes up.
 pub fn calls_follow()
     ensures { λ r. ⌜ Follows ⌝ }
 {}
