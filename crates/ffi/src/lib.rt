@@ -299,7 +299,7 @@ pub fn calls_follow()
     ensures { λ r. ⌜ Follows ⌝ }
 {}
 
-// Demand 3 of every program that links the library.
+// Demand 3 of every run of exported calls, each on the words and the storage that the last one left.
 pub fn every_run()
     ensures { λ r. ⌜ EveryRunInWords ⌝ }
 {}

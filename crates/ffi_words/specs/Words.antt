@@ -153,7 +153,7 @@ unfoldable pub noSession : SessionWords
 noSession =
     record { config = noConfig; clock = 0; «has_last» = 0; «last_instant» = 0; «last_timestamp» = 0; «last_number» = 0; «has_returned» = 0; returned = 0; «has_rtt» = 0; srtt = 0; variation = 0; «rtx_in_time» = 0; «rtx_too_late» = 0; «rtx_redundant» = 0; «rtx_bytes» = 0; dropped = 0; received = 0; bytes = 0; lost = 0; «jitter_clock_rate» = zero64; jitter = zero64; entries = 0; gaps = 0; remembered = 0; loss = zero32 }
 
--- What a call writes, the next one reads as it was: call after call is a run of the queue's calls.
+-- What a call writes, the next one reads as it was.
 pub record Kept : Type 0 where
   pub stays-readable : (s : Session) → readable (wordsOf s) ≡ true
   pub same : (s : Session) → sessionOf (wordsOf s) ≡ s
