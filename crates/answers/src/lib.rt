@@ -7,7 +7,7 @@ ghost use Rattle.poll.specs.Answers.{packetOf, pollAnswer, nackAnswer};
 ghost use Rattle.push.specs.Answers.{mediaAnswer, repairAnswer};
 ghost use Rattle.queue.specs.Answers.{openingAnswer, timeoutAnswer, statsAnswer, highestAnswer};
 ghost use Rattle.stats.specs.declared.OptRtxStats.the-variants as OptRtxStats;
-ghost use Rattle.answers.specs.Lines.{putAll, lineFeed, flagText, line as theLine, numberLine};
+ghost use Rattle.answers.specs.Lines.{WholeLine, putAll, lineFeed, flagText, line as theLine, numberLine};
 ghost use Rattle.answers.specs.Calls.{refusedLine, headerFields, packetLine, numberFields, nackLine, afterLine, figuresLine, answerLine, openingLine};
 use poll::HandedOut;
 use poll::PollAnswer;
@@ -23,6 +23,11 @@ use stats::OptRtxStats;
 use stats::RtpInboundRtxStats;
 
 pub mod state;
+
+// Nothing is computed: what it ensures is the law that a line with room for it is put whole.
+pub fn whole_line()
+    ensures { λ _. ⌜ WholeLine ⌝ }
+{}
 
 // The line feed.
 pub fn end(out: &mut [u8], at: usize) -> usize

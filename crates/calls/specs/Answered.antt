@@ -19,16 +19,17 @@ use Rattle.calls.specs.declared.SessionCall.the-variants as SessionCall
 use Rattle.calls.specs.declared.reading.ReadingCall.{ReadingCall}
 use Rattle.calls.specs.declared.reading.ReadingCall.the-variants as ReadingCall
 
--- The queue's call on `before` gave an answer and left `after`, and that answer's line stands behind what the output had.
+-- The queue's call on `before` gave an answer and left `after`, and each part of that answer's line is put behind what the output had, where
+-- it fits: the whole line where there is room for it (`answers::whole_line`).
 pub record Answered (call : Calls.Call) (before after : Stored) (had has : Output) : Type 0 where
   pub answer : Answer
   pub lent : List ℕ
   pub does : Does call before answer after lent
   pub text : has ≡ putAll (answerLine answer lent) had
 
--- `did` gives one answer and one lent list, so one session is left and one line put.
-abbrev pub OneLine : Type 0
-OneLine = (call : Calls.Call) (before a b : Stored) (had p q : Output) → Answered call before a had p → Answered call before b had q → (a ≡ b) × (p ≡ q)
+-- `did` gives one answer and one lent list, so that a call leaves one session with its storage, and one output.
+abbrev pub OneOutcome : Type 0
+OneOutcome = (call : Calls.Call) (before a b : Stored) (had p q : Output) → Answered call before a had p → Answered call before b had q → (a ≡ b) × (p ≡ q)
 
 -- ---- the calls of a trace that are made on a session
 

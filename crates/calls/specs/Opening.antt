@@ -55,7 +55,7 @@ configOf f =
 unfoldable pub openedWith : OpenFields → Storage → Did.Opened
 openedWith f t = cond (fits f) (opened (configOf f) t) (record { answer = Did.refused SETTINGS; storage = t })
 
--- The opening on `before` gave this answer and left `after`, and its line stands behind what the output had.
+-- The opening on `before` gave this answer and left `after`, and its line is put behind what the output had, as in `Answered`.
 pub record OpenAnswered (f : OpenFields) (before : Storage) (answer : Did.Opening) (after : Storage) (had has : Output) : Type 0 where
   pub opens : openedWith f before ≡ record { answer = answer; storage = after }
   pub text : has ≡ putAll (openingLine answer) had

@@ -4,7 +4,7 @@ ghost use lib.ListN.{take};
 ghost use Rattle.model.specs.Calls as Calls;
 ghost use Rattle.model.specs.Contract.{before, after};
 ghost use Rattle.put.specs.Text.{output};
-ghost use Rattle.calls.specs.Answered.{Answered, OneLine, pollCall, nackCall, queueCall, sessionCall, sizeOf};
+ghost use Rattle.calls.specs.Answered.{Answered, OneOutcome, pollCall, nackCall, queueCall, sessionCall, sizeOf};
 use config::MAX_GAPS;
 use model::Session;
 use reading::ReadingCall;
@@ -192,7 +192,7 @@ pub fn make(
     }
 }
 
-// `Answered` leaves neither the session nor the line open.
-pub fn one_line()
-    ensures { λ _. ⌜ OneLine ⌝ }
+// Nothing is computed: what it ensures is the law that `Answered` leaves neither session, storage nor output open.
+pub fn one_outcome()
+    ensures { λ _. ⌜ OneOutcome ⌝ }
 {}
