@@ -3,6 +3,7 @@ use Rattle.storage.proofs.Settled.{passed-16}
 use Rattle.push.proofs.Pushing.{payload-is, media-early, media-unread, media-read}
 use Rattle.push.specs.Answers.{mediaAnswer}
 use Rattle.model.specs.Contract.{stored}
+use Rattle.model.specs.Storage.{Stored}
 use Rattle.model.proofs.SoundQueue.{clock-of}
 use Rattle.rtp_packet.proofs.Bounds.{payload-fits}
 use Rattle.rtp_packet.proofs.Answers.{parsed-packet, parsed-refused}
@@ -14,6 +15,35 @@ use mathlib.Core.Path.{sym, ap, _∙_}
 use borrow.Author.Needs.{needs}
 use Rattle.push.proofs.push.Statement.{statement}
 use Rattle.push.proofs.push.Tie as tie
+
+-- ---- the places of the run, each from one after it
+
+abbrev start : tie.After-session-and-clock-refusal → tie.Start
+start c = c .before .before .before .before .before .before .before .before .before .before
+
+-- 16 and 8 are passed
+abbrev passed : tie.After-parse-media → tie.Else1
+passed c = c .before .before .before .before
+
+-- the datagram is read
+abbrev parsed : tie.After-payload → tie.After-parse-media
+parsed c = c .before .before .before .before
+
+-- its payload is found
+abbrev found : tie.After-push-packet-arg4 → tie.After-payload
+found c = c .before .before .before .before
+
+-- `push_packet` is done, and its lists are back
+abbrev pushed : tie.After-slice-known8 → tie.After-push-packet
+pushed c = c .before .before .before .before .before .before .before .before
+
+-- what the call came with
+abbrev came : tie.Start → Stored
+came s =
+    let a = s .args in
+    stored (a .session) (a .entries .now) (a .payloads .now) (a .gaps .now) (a .remembered .now)
+
+-- ---- the needs
 
 session-and-clock-refusal-requires : tie.Need-session-and-clock-refusal-requires
 session-and-clock-refusal-requires c κs = search needs
@@ -35,8 +65,11 @@ same-length-4 c = search needs
 
 returns : tie.Need-returns
 unfolding mediaAnswer
-returns c = let s = c .before .before .before .before .before .before .before .before .before .before .before .before in
-    rw (c .refused .ensures) (media-early (s .args .now) (s .args .datagram .now) (stored (s .args .session) (s .args .entries .now) (s .args .payloads .now) (s .args .gaps .now) (s .args .remembered .now)) _ (c .before .before .session-and-clock-refusal .ensures) (c .before .if1 .taken))
+returns c =
+    let r = c .before .before in
+    let s = start r in
+    rw (c .refused .ensures)
+    (media-early (s .args .now) (s .args .datagram .now) (came s) _ (r .session-and-clock-refusal .ensures) (c .before .if1 .taken))
 
 parse-media-requires : tie.Need-parse-media-requires
 parse-media-requires c κs = search needs
@@ -54,11 +87,17 @@ payload-requires : tie.Need-payload-requires
 payload-requires c κs = search needs
 
 push-packet-requires : tie.Need-push-packet-requires
-push-packet-requires c κs = let s = c .before .before .before .before .before .before .before .before .before .before .before .before .before .before .before .before .before .before .before .before .before .before .before in
-    let z = orElse-none _ _ (sym (c .before .before .before .before .before .before .before .before .before .before .before .before .before .session-and-clock-refusal .ensures) ∙ c .before .before .before .before .before .before .before .before .before .before .before .before .if1 .left) in
-    let x = parsed-packet _ _ LARGEST-PAYLOAD (s .args .datagram .now) _ (sym (c .before .before .before .before .before .before .before .before .parse-media .ensures) ∙ c .before .before .before .before .before .before .p .given .1) in
-    let l = ap length (payload-is (s .args .datagram .now) _ _ (c .before .before .before .before .payload .ensures) (x .1)) in
-    (passed-16 (stored (s .args .session) (s .args .entries .now) (s .args .payloads .now) (s .args .gaps .now) (s .args .remembered .now)) (z .0), (clock-of (s .args .session .queue) (s .args .now) (z .1) .1, omega (arith, l, payload-fits _ _ LARGEST-PAYLOAD (s .args .datagram .now) (x .0))))
+push-packet-requires c κs =
+    let f = found c in
+    let d = parsed f in
+    let p = passed d in
+    let s = start (p .before) in
+    let a = s .args in
+    let z = orElse-none _ _ (sym (p .before .session-and-clock-refusal .ensures) ∙ p .if1 .left) in
+    let x = parsed-packet _ _ LARGEST-PAYLOAD (a .datagram .now) _ (sym (d .parse-media .ensures) ∙ f .before .before .p .given .1) in
+    let l = ap length (payload-is (a .datagram .now) _ _ (f .payload .ensures) (x .1)) in
+    let fits = payload-fits _ _ LARGEST-PAYLOAD (a .datagram .now) (x .0) in
+    (passed-16 (came s) (z .0), (clock-of (a .session .queue) (a .now) (z .1) .1, omega (arith, l, fits)))
 
 same-length-5 : tie.Need-same-length-5
 same-length-5 c = search needs
@@ -74,9 +113,14 @@ same-length-8 c = search needs
 
 returns-2 : tie.Need-returns-2
 unfolding mediaAnswer
-returns-2 c = let s = c .before .before .before .before .before .before .before .before .before .before .before .before .before .before .before .before .before .before .before in
-    let x = parsed-refused _ _ LARGEST-PAYLOAD _ (s .args .datagram .now) (sym (c .before .before .before .before .parse-media .ensures) ∙ c .before .before .number .given .1) in
-    rw (c .refused2 .ensures) (media-unread (s .args .now) (s .args .datagram .now) (stored (s .args .session) (s .args .entries .now) (s .args .payloads .now) (s .args .gaps .now) (s .args .remembered .now)) _ (c .before .before .before .before .before .before .before .before .before .session-and-clock-refusal .ensures) (c .before .before .before .before .before .before .before .before .if1 .left) _ (x .0) (x .1))
+returns-2 c =
+    let d = c .before .before .before .before in
+    let p = passed d in
+    let s = start (p .before) in
+    let a = s .args in
+    let x = parsed-refused _ _ LARGEST-PAYLOAD _ (a .datagram .now) (sym (d .parse-media .ensures) ∙ c .before .before .number .given .1) in
+    rw (c .refused2 .ensures)
+    (media-unread (a .now) (a .datagram .now) (came s) _ (p .before .session-and-clock-refusal .ensures) (p .if1 .left) _ (x .0) (x .1))
 
 same-length-9 : tie.Need-same-length-9
 same-length-9 c = search needs
@@ -91,9 +135,16 @@ same-length-12 : tie.Need-same-length-12
 same-length-12 c = search needs
 
 returns-3 : tie.Need-returns-3
-returns-3 c = let s = c .before .before .before .before .before .before .before .before .before .before .before .before .before .before .before .before .before .before .before .before .before .before .before .before .before .before .before .before .before .before .before .before in
-    let x = parsed-packet _ _ LARGEST-PAYLOAD (s .args .datagram .now) _ (sym (c .before .before .before .before .before .before .before .before .before .before .before .before .before .before .before .before .before .parse-media .ensures) ∙ c .before .before .before .before .before .before .before .before .before .before .before .before .before .before .before .p .given .1) in
-    media-read (s .args .now) (s .args .datagram .now) (stored (s .args .session) (s .args .entries .now) (s .args .payloads .now) (s .args .gaps .now) (s .args .remembered .now)) _ (c .before .before .before .before .before .before .before .before .before .before .before .before .before .before .before .before .before .before .before .before .before .before .session-and-clock-refusal .ensures) (c .before .before .before .before .before .before .before .before .before .before .before .before .before .before .before .before .before .before .before .before .before .if1 .left) _ _ _ (x .0) (x .1) (payload-is (s .args .datagram .now) _ _ (c .before .before .before .before .before .before .before .before .before .before .before .before .before .payload .ensures) (x .1)) (c .before .before .before .before .before .before .before .before .push-packet .ensures)
+returns-3 c =
+    let u = pushed c in
+    let f = found (u .before) in
+    let d = parsed f in
+    let p = passed d in
+    let s = start (p .before) in
+    let a = s .args in
+    let x = parsed-packet _ _ LARGEST-PAYLOAD (a .datagram .now) _ (sym (d .parse-media .ensures) ∙ f .before .before .p .given .1) in
+    media-read (a .now) (a .datagram .now) (came s) _ (p .before .session-and-clock-refusal .ensures) (p .if1 .left)
+    _ _ _ (x .0) (x .1) (payload-is (a .datagram .now) _ _ (f .payload .ensures) (x .1)) (u .push-packet .ensures)
 
 pub push-spec : {M : Type 1} → statement M
 push-spec =
