@@ -1,5 +1,5 @@
 -- `poll` meets its contract: refused, nothing is touched; accepted, what `accept` does is what the call does.
-use mathlib.Core.Path.{_≡_, refl, _∙_}
+use mathlib.Core.Path.{_≡_, _∙_}
 use Rattle.rtp_packet.specs.Datagram.{LARGEST-PAYLOAD}
 use Rattle.model.specs.Storage.{Stored}
 use Rattle.model.specs.Contract.{stored}
