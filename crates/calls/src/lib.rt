@@ -168,18 +168,38 @@ pub fn make(
     gaps: &mut [u64],
     remembered: &mut [u64],
     call: SessionCall,
-    sent: &[u8],
+    datagram: &[u8],
     out: &mut [u8],
     at: usize,
 ) -> Made
-    ensures { λ r. ⌜ Answered (queueCall call (sent .entry .now)) (before entries payloads gaps remembered s) (after entries payloads gaps remembered (r .session)) (output (out .entry .now) at) (output (out .exit .now) (r .at)) ⌝ }
+    ensures { λ r. ⌜ Answered (queueCall call (datagram .entry .now)) (before entries payloads gaps remembered s) (after entries payloads gaps remembered (r .session)) (output (out .entry .now) at) (output (out .exit .now) (r .at)) ⌝ }
 {
     match call {
         SessionCall::Media(d) => {
-            media(s, entries, payloads, gaps, remembered, d.now, sent, out, at)
+            media(
+                s,
+                entries,
+                payloads,
+                gaps,
+                remembered,
+                d.now,
+                datagram,
+                out,
+                at,
+            )
         }
         SessionCall::Repair(d) => {
-            repair(s, entries, payloads, gaps, remembered, d.now, sent, out, at)
+            repair(
+                s,
+                entries,
+                payloads,
+                gaps,
+                remembered,
+                d.now,
+                datagram,
+                out,
+                at,
+            )
         }
         SessionCall::Poll(now) => poll(s, entries, payloads, gaps, remembered, now, out, at),
         SessionCall::PollNack(now) => {
