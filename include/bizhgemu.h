@@ -131,15 +131,15 @@ struct bizhgemu_session {
 	uint64_t received;
 	uint64_t bytes;
 	uint64_t lost;
-	/* The running jitter, in ticks of the clock rate beside it. */
-	double jitter_clock_rate;
-	double jitter;
+	/* The bits of two doubles: the running jitter, in ticks of the clock rate beside it. `bizhgemu_figures` has it as a time. */
+	uint64_t jitter_clock_rate_bits;
+	uint64_t jitter_bits;
 	/* How many packets wait, numbers are missing, lost numbers are remembered. */
 	size_t entries;
 	size_t gaps;
 	size_t remembered;
-	/* The running loss, 0 to 1. */
-	float loss;
+	/* The bits of a float: the running loss, 0 to 1. `bizhgemu_figures` has it as a float. */
+	uint32_t loss_bits;
 };
 
 struct bizhgemu_opened {

@@ -63,7 +63,7 @@ fn used() -> Queue {
 }
 
 /// All that is lent to a call: session and storage of `used`, and outputs just long enough, full of marks.
-#[derive(Clone)]
+#[derive(Clone, PartialEq)]
 struct Lent {
     session: ffi::Session,
     storage: Storage,
@@ -74,14 +74,6 @@ struct Lent {
 fn lent() -> Lent {
     let Queue { session, storage, .. } = used();
     Lent { session, storage, payload: vec![0xaa; LONGEST_PAYLOAD], numbers: vec![0xaaaa; session.config.max_gaps] }
-}
-
-impl PartialEq for Lent {
-    fn eq(&self, other: &Lent) -> bool {
-        words(&self.session) == words(&other.session)
-            && self.storage == other.storage
-            && (&self.payload, &self.numbers) == (&other.payload, &other.numbers)
-    }
 }
 
 /// Calls, each answered by the number of its refusal, or by 0.
@@ -158,16 +150,16 @@ fn refusals(lent: &Lent, now: u64) -> [u64; 9] {
     CALLS.map(|call| refusal(lent, now, call))
 }
 
-/// The words of a session, so that NaN is compared too.
+/// The words of a session, in their order.
 fn words(session: &ffi::Session) -> Vec<u64> {
     let s = session;
     let clock = [s.clock, s.has_last, s.last_instant, s.last_timestamp, s.last_number];
     let round_trip = [s.has_returned, s.returned, s.has_rtt, s.srtt, s.variation];
     let repairs = [s.rtx_in_time, s.rtx_too_late, s.rtx_redundant, s.rtx_bytes];
     let counters = [s.dropped, s.received, s.bytes, s.lost];
-    let floats = [s.jitter_clock_rate.to_bits(), s.jitter.to_bits()];
+    let floats = [s.jitter_clock_rate_bits, s.jitter_bits];
     let lists = [s.entries as u64, s.gaps as u64, s.remembered as u64];
-    let loss = [u64::from(s.loss.to_bits())];
+    let loss = [u64::from(s.loss_bits)];
     let parts = [&clock[..], &round_trip, &repairs, &counters, &floats, &lists, &loss];
     [config_words(&s.config), parts.concat()].concat()
 }
@@ -207,15 +199,15 @@ fn the_opening_carries_every_setting() {
 #[test]
 fn a_used_session_has_each_word_in_its_place() {
     let queue = used();
-    let (jitter, loss) = (queue.session.jitter, queue.session.loss);
-    assert!(jitter > 0.0 && loss > 0.0);
+    let (jitter, loss) = (queue.session.jitter_bits, queue.session.loss_bits);
+    assert!(f64::from_bits(jitter) > 0.0 && f32::from_bits(loss) > 0.0);
     let settings = [100 * MS, 5 * MS, 20 * MS, 200 * MS, 3, 999, 8000, 3, 1, 1];
     let senders = [SSRC.into(), RTX.ssrc.into(), 5, 97];
     let received = [126 * MS, 1, 121 * MS, 800, 15, 1, 12];
     let repairs = [1, 2 * MS, MS, 1, 2, 3, 7];
     let counters = [4, 3, 22, 1];
-    let floats = [8000f64.to_bits(), jitter.to_bits()];
-    let lists = [2, 1, 1, u64::from(loss.to_bits())];
+    let floats = [8000f64.to_bits(), jitter];
+    let lists = [2, 1, 1, u64::from(loss)];
     let expected = [&settings[..], &senders, &received, &repairs, &counters, &floats, &lists].concat();
     assert_eq!(words(&queue.session), expected);
 }
@@ -367,7 +359,7 @@ fn a_wrong_length_is_refused() {
 /// The clock rate, in the settings and in the jitter record.
 fn set_clock_rate(l: &mut Lent, rate: u64) {
     l.session.config.clock_rate = rate as u32;
-    (l.session.jitter_clock_rate, l.session.jitter) = (rate as f64, 0.0);
+    (l.session.jitter_clock_rate_bits, l.session.jitter_bits) = ((rate as f64).to_bits(), 0);
 }
 
 /// D, with storage of its lengths.
@@ -442,14 +434,14 @@ fn damaged_words_are_refused() {
         ("a counter: their bytes", |l, past| l.session.rtx_bytes = END + past),
         ("srtt", |l, past| l.session.srtt = END + past),
         ("variation", |l, past| l.session.variation = END + past),
-        ("jitter's clock rate", |l, past| l.session.jitter_clock_rate = 8000.0 + past as f64),
-        ("jitter below 0", |l, past| l.session.jitter = 0.0 - past as f64),
-        ("jitter above the clock rate", |l, past| l.session.jitter = f64::from_bits(8000f64.to_bits() + past)),
+        ("jitter's clock rate", |l, past| l.session.jitter_clock_rate_bits = (8000.0 + past as f64).to_bits()),
+        ("jitter below 0", |l, past| l.session.jitter_bits = (0.0 - past as f64).to_bits()),
+        ("jitter above the clock rate", |l, past| l.session.jitter_bits = 8000f64.to_bits() + past),
         // not the NaN that arithmetic gives: its bits come back too
-        ("jitter not a number", |l, past| l.session.jitter = [0.0, f64::from_bits(0x7ff4_0000_0000_0001)][past as usize]),
-        ("loss below 0", |l, past| l.session.loss = 0.0 - past as f32),
-        ("loss above 1", |l, past| l.session.loss = f32::from_bits(1f32.to_bits() + past as u32)),
-        ("loss not a number", |l, past| l.session.loss = [0.0, f32::from_bits(0x7fa0_0001)][past as usize]),
+        ("jitter not a number", |l, past| l.session.jitter_bits = [0, 0x7ff4_0000_0000_0001][past as usize]),
+        ("loss below 0", |l, past| l.session.loss_bits = (0.0 - past as f32).to_bits()),
+        ("loss above 1", |l, past| l.session.loss_bits = 1f32.to_bits() + past as u32),
+        ("loss not a number", |l, past| l.session.loss_bits = [0, 0x7fa0_0001][past as usize]),
     ], 16);
 }
 

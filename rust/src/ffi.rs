@@ -46,12 +46,12 @@ pub struct Session {
     pub received: u64,
     pub bytes: u64,
     pub lost: u64,
-    pub jitter_clock_rate: f64,
-    pub jitter: f64,
+    pub jitter_clock_rate_bits: u64,
+    pub jitter_bits: u64,
     pub entries: usize,
     pub gaps: usize,
     pub remembered: usize,
-    pub loss: f32,
+    pub loss_bits: u32,
 }
 
 #[repr(C)]
@@ -163,9 +163,9 @@ const _: () = {
     assert!(offset_of!(Session, clock) == 80);
     assert!(offset_of!(Session, has_rtt) == 136);
     assert!(offset_of!(Session, dropped) == 192);
-    assert!(offset_of!(Session, jitter_clock_rate) == 224);
+    assert!(offset_of!(Session, jitter_clock_rate_bits) == 224);
     assert!(offset_of!(Session, entries) == 240);
-    assert!(offset_of!(Session, loss) == 264);
+    assert!(offset_of!(Session, loss_bits) == 264);
     assert!(offset_of!(Packet, size) == 24);
     assert!(offset_of!(Packet, sequence_number) == 40);
     assert!(offset_of!(Packet, marker) == 43);

@@ -92,7 +92,7 @@ impl Queue {
 
     /// The running jitter in ticks of the RTP clock. [`Figures::jitter`](crate::Figures::jitter) has it as a time.
     pub fn jitter_ticks(&self) -> f64 {
-        self.session.jitter
+        f64::from_bits(self.session.jitter_bits)
     }
 
     /// The packets that wait, ascending by number.

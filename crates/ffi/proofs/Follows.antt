@@ -25,9 +25,10 @@ use Rattle.ffi_words.specs.declared.SessionWords.{SessionWords}
 use Rattle.ffi_words.specs.declared.answers.Pushed.{Pushed}
 use Rattle.ffi_words.specs.declared.answers.Polled.{Polled}
 use Rattle.ffi_words.specs.declared.answers.PolledNack.{PolledNack}
-use Rattle.ffi_words.specs.Words.{configReadable, readable, configOf, sessionOf, wordsOf}
+use Rattle.ffi_words.specs.Words.{configReadable, readable, configOf, sessionOf, wordsOf, FloatsFit}
 use Rattle.ffi_words.specs.Told.{refusalIn, sessionAfter, openTold, pushed, polled, polledNack}
 use Rattle.ffi_words.proofs.Kept.{words-kept}
+use Rattle.ffi.proofs.Floats.{taken-fits, new-fits}
 use Rattle.ffi.specs.Exported.{standsFor, Given, unread, told, called, Gives, alone, openedBy, openedWords}
 use Rattle.ffi.specs.Follows.{ExportedCall, push, push-rtx, polls, polls-nack, receive-timeout, nack-timeout, repair-figures, highest-number, ReadAs, Follows}
 
@@ -65,8 +66,9 @@ no-refusal Calls.highestReceived s = refl
 abbrev words : Answer → SessionWords → SessionWords
 words a w = w
 
-written : (m : Stored) → ReadAs (wordsOf (m .session)) (m .storage) m
-written m = (words-kept .stays-readable (m .session), ap (λ (s : Session). record { session = s; storage = m .storage }) (words-kept .same (m .session)))
+written : (s : State) → FloatsFit (s .queue) → ReadAs (wordsOf (write s .session)) (write s .storage) (write s)
+unfolding write
+written s h = (words-kept .stays-readable (write s .session), ap (λ (x : Session). record { session = x; storage = write s .storage }) (words-kept .same (write s .session) h))
 
 module _ (c : Call) (w : SessionWords) (t : Storage) (r : readable w ≡ true) where
   abbrev m : Stored
@@ -76,9 +78,9 @@ module _ (c : Call) (w : SessionWords) (t : Storage) (r : readable w ≡ true) w
   done b = cond b (accepted c (parse m)) (turnedBack (refusal c m) c m)
 
   stands : (b : Bool) → ReadAs (told words w (done b) .value) (told words w (done b) .storage) (done b .stored)
-  unfolding told accepted turnedBack sessionAfter refusalIn
+  unfolding told accepted turnedBack sessionAfter refusalIn parse sessionOf
   stands false = (r, refl)
-  stands true = rw (no-refusal c (parse m)) (written (write (taken c (parse m))))
+  stands true = rw (no-refusal c (parse m)) (written (taken c (parse m)) (taken-fits c (parse m) (words-kept .floats-fit w)))
 
   words-follow : ReadAs (called words c w t .value) (called words c w t .storage) (did c m .stored)
   unfolding called did
@@ -144,7 +146,7 @@ at-call {w} {t = t} r (highest-number g) = read-leaves _ _ (λ m. refl) w t r g
 
 at-opening : (c : ConfigWords) (t : Storage) → configReadable c ≡ true → openingRefusal (configOf c) t ≡ 0 → ReadAs (openedWords c t .value .session) (openedWords c t .storage) (write (newState (configOf c)))
 unfolding openedWords openedBy opened openTold
-at-opening c t r z = rw (r, z) (written (write (newState (configOf c))))
+at-opening c t r z = rw (r, z) (written (newState (configOf c)) (new-fits (configOf c)))
 
 pub follows : Follows
 follows = record { at-opening = at-opening; at-call = at-call }

@@ -1,4 +1,5 @@
 -- Laws that the proofs share.
 pub mod Given
+pub mod Floats
 pub mod Follows
 pub mod Runs

@@ -200,13 +200,17 @@ module _ {c : ConfigWords} {ks : List Call} {w : SessionWords} {x : Run} (s : St
   told-are : figures w ≡ figuresOf (queueOf w)
   told-are = figures-are w (x .stored .storage) (s .readable-words) (rw (← s .stored-is) (made-sound (s .made)))
 
-  lost-told : queueOf w .counters .lost ≡ length (x .book .lost)
-  unfolding parse sessionOf
-  lost-told = ap (λ (m : Stored). parse m .queue .counters .lost) (sym (s .stored-is)) ∙ every-run .holds (configOf c) ks x (s .made) .lost-counted
+  queue-is : queueOf w ≡ x .stored .session .queue
+  unfolding sessionOf
+  queue-is = ap (λ (m : Stored). m .session .queue) (sym (s .stored-is))
 
-  tells : {r : Figures} → r ≡ figures w → (r .refusal ≡ 0) × (r .«packets_lost» ≡ length (x .book .lost))
+  lost-told : x .stored .session .queue .counters .lost ≡ length (x .book .lost)
+  unfolding parse
+  lost-told = every-run .holds (configOf c) ks x (s .made) .lost-counted
+
+  tells : {r : Figures} → r ≡ figures w → (r ≡ figuresOf (x .stored .session .queue)) × (r .«packets_lost» ≡ length (x .book .lost))
   unfolding figuresOf
-  tells e = rw (e, told-are) (refl, lost-told)
+  tells e = rw (e, told-are, queue-is) (refl, lost-told)
 
 pub every-run-in-words : EveryRunInWords
 every-run-in-words =

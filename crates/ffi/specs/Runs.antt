@@ -14,7 +14,7 @@ use Rattle.ffi_words.specs.declared.SessionWords.{SessionWords}
 use Rattle.ffi_words.specs.declared.answers.Opened.{Opened}
 use Rattle.ffi_words.specs.declared.figures.Figures.{Figures}
 use Rattle.ffi_words.specs.Words.{configOf}
-use Rattle.ffi.specs.Exported.{standsFor, openedWords, figures}
+use Rattle.ffi.specs.Exported.{standsFor, openedWords, figuresOf, figures}
 use Rattle.ffi.specs.Follows.{ExportedCall}
 
 -- x after one more call, by what the caller then has
@@ -40,6 +40,6 @@ pub record EveryRunInWords : Type 0 where
   pub same : {c : ConfigWords} {ks : List Call} {w v : SessionWords} {u : Storage} {heard : Heard} {numbers : List ℕ} {x : Run} {k : Call}
       → MadeInWords c ks w x → ExportedCall w (x .stored .storage) k v u heard numbers
       → call (configOf c) x k ≡ nextRun (configOf c) x k v u heard numbers
-  -- what `bizhgemu_figures` tells wherever such a run stands: it is not refused, and its lost count is the number of the book's lost ones
+  -- what `bizhgemu_figures` tells wherever such a run stands: the figures of the session, and as lost the number of the book's lost ones
   pub figures-told : {c : ConfigWords} {ks : List Call} {w : SessionWords} {x : Run} {r : Figures} → MadeInWords c ks w x → r ≡ figures w
-      → (r .refusal ≡ 0) × (r .«packets_lost» ≡ length (x .book .lost))
+      → (r ≡ figuresOf (x .stored .session .queue)) × (r .«packets_lost» ≡ length (x .book .lost))

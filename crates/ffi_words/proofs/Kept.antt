@@ -2,6 +2,8 @@
 use mathlib.Core.Path.{_≡_, refl}
 use mathlib.Core.Bool.{Bool, true, false}
 use lib.Dec.{eqb, leb}
+use lib.Ieee.{binary32, binary64}
+use lib.Ieee.Bits.{ofBits-toBits, ofBits-fits}
 use Rattle.rtp.specs.declared.opt.OptNumber.{OptNumber}
 use Rattle.rtp.specs.declared.opt.OptNumber.the-variants as OptNumber
 use Rattle.rtx_state.specs.declared.OptRtt.{OptRtt}
@@ -81,5 +83,6 @@ unfolding readable sessionOf queueOf wordsOf
 words-kept =
     record {
       stays-readable = λ s. rw (config-reads (s .queue .config), last-reads (s .queue .last), returned-reads (s .queue .returned), rtt-reads (s .queue .rtx .rtt));
-      same = λ s. rw (config-kept (s .queue .config), last-kept (s .queue .last), returned-kept (s .queue .returned), rtt-kept (s .queue .rtx .rtt));
+      floats-fit = λ w. record { rate-fits = ofBits-fits binary64 _; jitter-fits = ofBits-fits binary64 _; loss-fits = ofBits-fits binary32 _ };
+      same = λ s h. rw (config-kept (s .queue .config), last-kept (s .queue .last), returned-kept (s .queue .returned), rtt-kept (s .queue .rtx .rtt), ofBits-toBits binary64 _ (h .rate-fits), ofBits-toBits binary64 _ (h .jitter-fits), ofBits-toBits binary32 _ (h .loss-fits));
     }

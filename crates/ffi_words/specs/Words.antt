@@ -1,12 +1,12 @@
--- A session and its settings as plain numbers: which words are readable, what they stand for, and how a session is written in them.
+-- A session and its settings as plain numbers: which words are readable, what they stand for, and how a session is written in them. A float is
+-- its bits (IEEE 754, 3.4).
 use mathlib.Core.Path.{_≡_}
 use mathlib.Core.Bool.{Bool, true, false, _&&_, cond}
 use Prim.Native.Nat.{ℕ}
-use lib.Dec.{eqb, leb}
+use lib.Dec.{T, eqb, leb}
+use lib.Ieee.{binary32, binary64, ofBits, toBits, fits}
 use Rattle.rtp.specs.declared.opt.OptNumber.{OptNumber}
 use Rattle.rtp.specs.declared.opt.OptNumber.the-variants as OptNumber
-use Rattle.durations.specs.Seconds.{zero64}
-use Rattle.packet_loss.specs.Loss.{zero32}
 use Rattle.rtx_state.specs.declared.OptRtt.{OptRtt}
 use Rattle.rtx_state.specs.declared.OptRtt.the-variants as OptRtt
 use Rattle.config.specs.Mode.{modeOf, modeNumber}
@@ -64,8 +64,8 @@ queueOf w =
             «bytes_received» = w .«rtx_bytes»;
           };
       counters = record { dropped = w .dropped; received = w .received; bytes = w .bytes; lost = w .lost };
-      jitter = record { «clock_rate» = w .«jitter_clock_rate»; jitter = w .jitter };
-      loss = record { loss = w .loss };
+      jitter = record { «clock_rate» = ofBits binary64 (w .«jitter_clock_rate_bits»); jitter = ofBits binary64 (w .«jitter_bits») };
+      loss = record { loss = ofBits binary32 (w .«loss_bits») };
     }
 
 unfoldable pub sessionOf : SessionWords → Session
@@ -136,12 +136,12 @@ wordsOf s =
       received = q .counters .received;
       bytes = q .counters .bytes;
       lost = q .counters .lost;
-      «jitter_clock_rate» = q .jitter .«clock_rate»;
-      jitter = q .jitter .jitter;
+      «jitter_clock_rate_bits» = toBits binary64 (q .jitter .«clock_rate»);
+      «jitter_bits» = toBits binary64 (q .jitter .jitter);
       entries = s .entries;
       gaps = s .gaps;
       remembered = s .remembered;
-      loss = q .loss .loss;
+      «loss_bits» = toBits binary32 (q .loss .loss);
     }
 
 -- zeros, where there is no session to tell
@@ -151,9 +151,16 @@ noConfig =
 
 unfoldable pub noSession : SessionWords
 noSession =
-    record { config = noConfig; clock = 0; «has_last» = 0; «last_instant» = 0; «last_timestamp» = 0; «last_number» = 0; «has_returned» = 0; returned = 0; «has_rtt» = 0; srtt = 0; variation = 0; «rtx_in_time» = 0; «rtx_too_late» = 0; «rtx_redundant» = 0; «rtx_bytes» = 0; dropped = 0; received = 0; bytes = 0; lost = 0; «jitter_clock_rate» = zero64; jitter = zero64; entries = 0; gaps = 0; remembered = 0; loss = zero32 }
+    record { config = noConfig; clock = 0; «has_last» = 0; «last_instant» = 0; «last_timestamp» = 0; «last_number» = 0; «has_returned» = 0; returned = 0; «has_rtt» = 0; srtt = 0; variation = 0; «rtx_in_time» = 0; «rtx_too_late» = 0; «rtx_redundant» = 0; «rtx_bytes» = 0; dropped = 0; received = 0; bytes = 0; lost = 0; «jitter_clock_rate_bits» = 0; «jitter_bits» = 0; entries = 0; gaps = 0; remembered = 0; «loss_bits» = 0 }
+
+-- the floats are values of their formats, as those of every program are
+pub record FloatsFit (q : Queue) : Type 0 where
+  pub rate-fits : T (fits binary64 (q .jitter .«clock_rate»))
+  pub jitter-fits : T (fits binary64 (q .jitter .jitter))
+  pub loss-fits : T (fits binary32 (q .loss .loss))
 
 -- What a call writes, the next one reads as it was.
 pub record Kept : Type 0 where
   pub stays-readable : (s : Session) → readable (wordsOf s) ≡ true
-  pub same : (s : Session) → sessionOf (wordsOf s) ≡ s
+  pub floats-fit : (w : SessionWords) → FloatsFit (queueOf w)
+  pub same : (s : Session) → FloatsFit (s .queue) → sessionOf (wordsOf s) ≡ s

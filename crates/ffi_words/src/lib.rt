@@ -1,5 +1,6 @@
-// The session and its settings as they cross the boundary: plain numbers, no bool and no enum. A flag is a word, 0 or 1. Where the flag
-// of a record is 0, its values are not looked at, and are 0 in what comes back; settings beside `has_rtx` stay as they are.
+// The session and its settings as they cross the boundary: plain numbers, no bool, no enum and no float. A flag is a word, 0 or 1. Where the
+// flag of a record is 0, its values are not looked at, and are 0 in what comes back; settings beside `has_rtx` stay as they are. A float is its
+// bits: a NaN has many, which a refused call gives back as they came.
 ghost use mathlib.Core.Path.{_≡_};
 ghost use Rattle.ffi_words.specs.Words as Words;
 ghost use Rattle.ffi_words.specs.Words.{Kept};
@@ -23,6 +24,7 @@ use rtx_state::RtxState;
 
 pub mod answers;
 pub mod figures;
+mod floats;
 pub mod writing;
 
 // `mode` is 0 for Passthrough, 1 for SortedQueue.
@@ -65,12 +67,12 @@ pub struct SessionWords {
     pub received: u64,
     pub bytes: u64,
     pub lost: u64,
-    pub jitter_clock_rate: f64,
-    pub jitter: f64,
+    pub jitter_clock_rate_bits: u64,
+    pub jitter_bits: u64,
     pub entries: usize,
     pub gaps: usize,
     pub remembered: usize,
-    pub loss: f32,
+    pub loss_bits: u32,
 }
 
 // A record that may be missing, as a flag and its values.
@@ -207,11 +209,13 @@ pub fn queue_of(s: SessionWords) -> Queue
         bytes: s.bytes,
         lost: s.lost,
     };
+    let clock_rate = floats::f64_of(s.jitter_clock_rate_bits);
+    let ticks = floats::f64_of(s.jitter_bits);
     let jitter = Jitter {
-        clock_rate: s.jitter_clock_rate,
-        jitter: s.jitter,
+        clock_rate,
+        jitter: ticks,
     };
-    let loss = PacketLoss { loss: s.loss };
+    let loss = floats::f32_of(s.loss_bits);
     Queue {
         config,
         clock: s.clock,
@@ -220,7 +224,7 @@ pub fn queue_of(s: SessionWords) -> Queue
         rtx,
         counters,
         jitter,
-        loss,
+        loss: PacketLoss { loss },
     }
 }
 

@@ -8,6 +8,7 @@ use super::LastWords;
 use super::ReturnedWords;
 use super::RttWords;
 use super::SessionWords;
+use super::floats;
 use config::RtpInboundQueueMode;
 use model::Config;
 use model::LastReceived;
@@ -115,6 +116,9 @@ pub fn words_of(s: Session) -> SessionWords
     let highest = last_words(q);
     let passed = returned_words(q);
     let estimate = rtt_words(q.rtx);
+    let jitter_clock_rate_bits = floats::f64_bits(q.jitter.clock_rate);
+    let jitter_bits = floats::f64_bits(q.jitter.jitter);
+    let loss_bits = floats::f32_bits(q.loss.loss);
     SessionWords {
         config,
         clock: q.clock,
@@ -135,12 +139,12 @@ pub fn words_of(s: Session) -> SessionWords
         received: q.counters.received,
         bytes: q.counters.bytes,
         lost: q.counters.lost,
-        jitter_clock_rate: q.jitter.clock_rate,
-        jitter: q.jitter.jitter,
+        jitter_clock_rate_bits,
+        jitter_bits,
         entries: s.entries,
         gaps: s.gaps,
         remembered: s.remembered,
-        loss: q.loss.loss,
+        loss_bits,
     }
 }
 
@@ -190,11 +194,11 @@ pub fn no_session() -> SessionWords
         received: 0,
         bytes: 0,
         lost: 0,
-        jitter_clock_rate: 0.0,
-        jitter: 0.0,
+        jitter_clock_rate_bits: 0,
+        jitter_bits: 0,
         entries: 0,
         gaps: 0,
         remembered: 0,
-        loss: 0.0,
+        loss_bits: 0,
     }
 }

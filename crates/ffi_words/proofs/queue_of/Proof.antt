@@ -16,6 +16,15 @@ returned-of-requires c κs = search needs
 rtx-of-requires : tie.Need-rtx-of-requires
 rtx-of-requires c κs = search needs
 
+f64-of-requires : tie.Need-f64-of-requires
+f64-of-requires c κs = search needs
+
+f64-of-requires-2 : tie.Need-f64-of-requires-2
+f64-of-requires-2 c κs = search needs
+
+f32-of-requires : tie.Need-f32-of-requires
+f32-of-requires c κs = search needs
+
 returns : tie.Need-returns
 unfolding queueOf
 returns c = cc
@@ -23,4 +32,12 @@ returns c = cc
 pub queue-of-spec : {M : Type 1} → statement M
 queue-of-spec =
     tie.close
-    (tie.spec config-of-requires last-of-requires returned-of-requires rtx-of-requires returns)
+    (tie.spec
+    config-of-requires
+    last-of-requires
+    returned-of-requires
+    rtx-of-requires
+    f64-of-requires
+    f64-of-requires-2
+    f32-of-requires
+    returns)

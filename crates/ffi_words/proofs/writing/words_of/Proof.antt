@@ -16,6 +16,15 @@ returned-words-requires c κs = search needs
 rtt-words-requires : tie.Need-rtt-words-requires
 rtt-words-requires c κs = search needs
 
+f64-bits-requires : tie.Need-f64-bits-requires
+f64-bits-requires c κs = search needs
+
+f64-bits-requires-2 : tie.Need-f64-bits-requires-2
+f64-bits-requires-2 c κs = search needs
+
+f32-bits-requires : tie.Need-f32-bits-requires
+f32-bits-requires c κs = search needs
+
 returns : tie.Need-returns
 unfolding wordsOf
 returns c = cc
@@ -28,4 +37,7 @@ words-of-spec =
     last-words-requires
     returned-words-requires
     rtt-words-requires
+    f64-bits-requires
+    f64-bits-requires-2
+    f32-bits-requires
     returns)
