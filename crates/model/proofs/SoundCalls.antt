@@ -25,7 +25,7 @@ use Rattle.model.proofs.Laid.{Fits, parse-write, lengths-write}
 use Rattle.model.proofs.Lists.{not-not, Each, none, each-imp, empty}
 use Rattle.model.specs.StaysSound.{StaysSound}
 use Rattle.model.proofs.Sound.{Returned, Sound}
-use Rattle.model.proofs.SoundTest.{sound-of, sound-to, fits-to, rate-of}
+use Rattle.model.proofs.SoundTest.{sound-of, sound-to, fits-to, rate-small}
 use Rattle.model.proofs.SoundQueue.{not-refused}
 use Rattle.model.proofs.SoundPush.{media-sound, repair-sound}
 use Rattle.model.proofs.SoundPoll.{poll-sound, poll-nack-sound}
@@ -43,7 +43,7 @@ new-sound c v =
             last-in = tt;
             counters-in = record { dropped-fits = lit≤ tt; received-fits = lit≤ tt; bytes-fit = lit≤ tt; lost-fits = lit≤ tt };
             rtx-in = record { rtt-in = tt; in-time-fits = lit≤ tt; too-late-fits = lit≤ tt; redundant-fits = lit≤ tt; bytes-fit = lit≤ tt };
-            jitter-in = new-jitter (c .settings .«clock_rate») (omega (arith, rate-of c v .small));
+            jitter-in = new-jitter (c .settings .«clock_rate») (omega (arith, rate-small c v));
             loss-in = new-loss;
           };
       lists-in = record { returned-in = tt; gaps-rise = empty; gaps-in = none; entries-rise = empty; entries-in = none; apart = none; remembered-in = none };

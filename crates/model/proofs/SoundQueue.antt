@@ -33,7 +33,7 @@ use Rattle.model.specs.Valid.{lastSound}
 use Rattle.model.specs.Table.{clockRefusal, countRefusal}
 use Rattle.model.proofs.Lists.{by-nor, Each, each-imp, each-not-of-some}
 use Rattle.model.proofs.Sound.{Under, CountersIn, RtxIn, QueueIn}
-use Rattle.model.proofs.SoundTest.{rate-of}
+use Rattle.model.proofs.SoundTest.{rate-small}
 
 -- ---- checks that pass
 
@@ -135,6 +135,4 @@ lose-in {q} n h k =
 
 pub heard-in : {now ts : ℕ} (q : Queue) → QueueIn q → q .clock ≤ now → now ≤ largest → ts ≤ largest → QueueIn (heard now ts q)
 unfolding heard
-heard-in q h later a b =
-    let rate = rate-of (q .config) (h .config-in) in
-    jitter-set (clock-set h later) (jitter-after (q .clock) (q .last) (q .jitter) (rate .small) a b (h .last-in) (h .jitter-in))
+heard-in q h later a b = jitter-set (clock-set h later) (jitter-after (q .clock) (q .last) (q .jitter) (rate-small (q .config) (h .config-in)) a b (h .last-in) (h .jitter-in))

@@ -244,13 +244,9 @@ module _ (s : State) where
 
 -- ---- the setting that the jitter's range rests on
 
-pub record RateIn (c : Config) : Type 0 where
-  pub some : 1 ≤ c .settings .«clock_rate»
-  pub small : c .settings .«clock_rate» ≤ 1000000
-
-pub rate-of : (c : Config) → T (configValid c) → RateIn c
+pub rate-small : (c : Config) → T (configValid c) → c .settings .«clock_rate» ≤ 1000000
 unfolding configValid settingsValid allLeft Parts
-rate-of c t =
+rate-small c t =
     let set = c .settings in
     let p =
     left (within 1 1000000 (set .«clock_rate»))
@@ -263,5 +259,4 @@ rate-of c t =
     ∷ within 1 255 (set .«max_nack_attempts»)
     ∷ [])
     (and-l (settingsValid set) (sendersValid (c .senders)) t) in
-    let r = left (leb 1 (set .«clock_rate»)) (leb (set .«clock_rate») 1000000 ∷ []) (p .0) in
-    record { some = leb→le _ _ (r .0); small = leb→le _ _ (r .1) }
+    leb→le _ _ (left (leb 1 (set .«clock_rate»)) (leb (set .«clock_rate») 1000000 ∷ []) (p .0) .1)
