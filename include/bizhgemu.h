@@ -20,7 +20,7 @@
  *  - Floats are rounded to nearest, and subnormal ones are kept, as programs usually start. Another rounding can leave a
  *    session that the next call refuses under 16; flushing subnormals to zero, which linking with -ffast-math may set, changes
  *    the figures.
- * Every VALUE is checked, damaged sessions and storage included.
+ * No VALUE makes a call fault, not those of damaged sessions and storage either.
  *
  * Instants are nanoseconds since a start that you choose, not over 52 days back, from a clock that never goes back; at most
  * BIZHGEMU_LATEST. (CLOCK_MONOTONIC counts from the start of the machine: take its reading at your own start off.)
@@ -291,7 +291,8 @@ struct bizhgemu_rtx_stats bizhgemu_rtx_stats(struct bizhgemu_session session, BI
 /* The extended number of the media packet with the highest number; none before the first. Refused under 16. */
 struct bizhgemu_highest bizhgemu_highest_sequence_number_received(struct bizhgemu_session session, BIZHGEMU_STORAGE);
 
-/* The figures a box shows. Refused under 16 where the session itself is not sound; the storage is not looked at. */
+/* The figures a box shows. Refused under 16 where the session is not sound; storage and `entries`, `gaps`, `remembered` are
+ * not looked at. */
 struct bizhgemu_figures bizhgemu_figures(struct bizhgemu_session session);
 
 /* A session with its storage. Fill in the four pointers and their lengths, those that BIZHGEMU_ENTRIES and so on give, then

@@ -53,7 +53,8 @@ pub struct Figures {
     pub packets_lost: u64,
     /// Payload bytes of the media packets queued.
     pub bytes_received: u64,
-    /// Running jitter. Late packets do not count, so it reads lower than RFC 3550's on a line that reorders.
+    /// Running jitter. Packets with a timestamp not above that of the highest number so far do not count, so it reads lower
+    /// than RFC 3550's on a line that reorders.
     pub jitter: Duration,
     /// Running loss of the original stream, 0 to 1; a repaired packet counts as lost.
     pub loss: f32,
@@ -64,9 +65,9 @@ pub struct Figures {
 pub struct RtxStats {
     /// Repairs that filled a gap.
     pub packets_received_in_time: u64,
-    /// Repairs of numbers at or below the one last handed out or pushed out.
+    /// In sorted mode: repairs of numbers at or below the one last handed out or pushed out.
     pub packets_received_too_late: u64,
-    /// Repairs of numbers that were not missing.
+    /// Other repairs of numbers that were not missing.
     pub packets_received_redundant: u64,
     /// Payload bytes of the repairs in time.
     pub bytes_received: u64,

@@ -435,6 +435,7 @@ fn damaged_words_are_refused() {
         ("srtt", |l, past| l.session.srtt = END + past),
         ("variation", |l, past| l.session.variation = END + past),
         ("jitter's clock rate", |l, past| l.session.jitter_clock_rate_bits = (8000.0 + past as f64).to_bits()),
+        ("jitter's clock rate not a number", |l, past| l.session.jitter_clock_rate_bits = [8000f64.to_bits(), 0xfff0_0000_0000_0001][past as usize]),
         ("jitter below 0", |l, past| l.session.jitter_bits = (0.0 - past as f64).to_bits()),
         ("jitter above the clock rate", |l, past| l.session.jitter_bits = 8000f64.to_bits() + past),
         // not the NaN that arithmetic gives: its bits come back too

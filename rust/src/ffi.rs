@@ -1,6 +1,6 @@
 //! The boundary as it is exported: declarations only. include/bizhgemu.h has the same for C, with a comment for each.
 //!
-//! rust/tests/declarations.rs compares them with the library's and the header's, field by field; the assertions below fix their layout, and
+//! rust/tests/declarations.rs compares them with the Rattle sources' and the header's, field by field; the assertions below fix their layout, and
 //! tests send distinct values through.
 
 use std::mem::{offset_of, size_of};

@@ -83,7 +83,8 @@ pub(crate) use lend;
 ///
 /// The numbers under "Errors" stand in the order in which they are checked. Every call looks through session and storage
 /// first and refuses under 16 what is damaged; since a queue owns both, that means that memory was overwritten. Calls that
-/// only read take `&mut self` because every accepted call leaves zeros in unused storage.
+/// only read take `&mut self` because every accepted call leaves zeros in unused storage. [`figures`](Queue::figures) alone
+/// looks at no storage.
 #[derive(Clone)]
 pub struct Queue {
     pub(crate) session: ffi::Session,

@@ -54,7 +54,6 @@ fn rust_type(kind: &str) -> String {
         "uint16_t" => "u16".into(),
         "uint8_t" => "u8".into(),
         "size_t" => "usize".into(),
-        "double" => "f64".into(),
         "float" => "f32".into(),
         kind => camel_case(kind.trim_start_matches("struct bizhgemu_")),
     }

@@ -153,7 +153,7 @@ unfoldable pub noSession : SessionWords
 noSession =
     record { config = noConfig; clock = 0; «has_last» = 0; «last_instant» = 0; «last_timestamp» = 0; «last_number» = 0; «has_returned» = 0; returned = 0; «has_rtt» = 0; srtt = 0; variation = 0; «rtx_in_time» = 0; «rtx_too_late» = 0; «rtx_redundant» = 0; «rtx_bytes» = 0; dropped = 0; received = 0; bytes = 0; lost = 0; «jitter_clock_rate_bits» = 0; «jitter_bits» = 0; entries = 0; gaps = 0; remembered = 0; «loss_bits» = 0 }
 
--- the floats are values of their formats, as those of every program are
+-- Each float is a value of its format (IEEE 754, 3.3). Those of a running program are, by their type.
 pub record FloatsFit (q : Queue) : Type 0 where
   pub rate-fits : T (fits binary64 (q .jitter .«clock_rate»))
   pub jitter-fits : T (fits binary64 (q .jitter .jitter))

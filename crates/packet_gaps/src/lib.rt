@@ -26,7 +26,7 @@ pub struct Gap {
     pub number: ExtendedSequenceNumber,
     pub detected: u64,
     pub nacks: u64,
-    // Of no account as long as there was no NACK.
+    // As long as there was no NACK, check 16 alone looks at it.
     pub nacked_at: u64,
 }
 
