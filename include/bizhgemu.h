@@ -1,4 +1,4 @@
-/* The receive queue of one RTP stream: datagrams and instants in; packets in order, NACK lists and timeouts out.
+/* The receive queue of one RTP stream: datagrams and instants in; packets, NACK lists and timeouts out.
  *
  * Link target/staticlib/libffi.a, which `rt staticlib ffi` makes; it needs memset and memmove alone. C99 or later, x86-64
  * Linux. docs/USING.md tells how to choose settings and drive the queue. No function allocates, blocks, reads a clock or
@@ -53,7 +53,7 @@ extern "C" {
 #define BIZHGEMU_REMEMBERED 2048
 
 /* Why a call was turned back. Checks run in the order of docs/USING.md, "Refusals in the field", not of these numbers; there
- * it also says what to do about each. */
+ * it also says what to do about each. Below, "2 to 7" stands for 2 (under 12 bytes), 3, 2 (CSRCs and extension), 4, 5, 6, 7. */
 enum bizhgemu_refusal {
 	BIZHGEMU_ACCEPTED = 0,
 	BIZHGEMU_SETTINGS = 1,            /* a setting is out of its range */
@@ -63,10 +63,10 @@ enum bizhgemu_refusal {
 	BIZHGEMU_PAYLOAD_TOO_LARGE = 5,   /* payload over 320 bytes, of a repair over 322 */
 	BIZHGEMU_PAYLOAD_TYPE = 6,        /* payload type not the session's */
 	BIZHGEMU_SSRC = 7,                /* SSRC not the session's */
-	BIZHGEMU_CLOCK = 8,               /* instant before the latest accepted one, or above BIZHGEMU_LATEST */
+	BIZHGEMU_CLOCK = 8,               /* instant before that of an accepted push or poll, or above BIZHGEMU_LATEST */
 	BIZHGEMU_NO_RTX = 9,              /* repair for a session without RTX */
 	BIZHGEMU_NO_MEDIA = 10,           /* repair before any media packet */
-	BIZHGEMU_NO_ORIGINAL_NUMBER = 11, /* repair of under 2 bytes */
+	BIZHGEMU_NO_ORIGINAL_NUMBER = 11, /* repair with a payload under 2 bytes */
 	BIZHGEMU_GAPS_FULL = 12,          /* more gaps than max_gaps would be open */
 	BIZHGEMU_ENTRIES_FULL = 13,       /* repair with 2 * max_entries packets waiting */
 	BIZHGEMU_COUNT = 14,              /* a number, timestamp or counter would pass 2^52 - 1, or a NACK count 2^32 - 1 */
@@ -77,7 +77,7 @@ enum bizhgemu_refusal {
 /* `mode` of the settings. */
 enum bizhgemu_mode {
 	BIZHGEMU_PASSTHROUGH = 0, /* packets are handed out at once; late ones come out of order */
-	BIZHGEMU_SORTED_QUEUE = 1 /* in order, kept for `delay` */
+	BIZHGEMU_SORTED_QUEUE = 1 /* in order, `delay` after their time */
 };
 
 /* `answer` to a media packet, and to a repair, where `refusal` is 0. */
@@ -87,7 +87,7 @@ enum bizhgemu_repair { BIZHGEMU_RECOVERED = 0, BIZHGEMU_REDUNDANT = 1, BIZHGEMU_
 /* The settings. Every field is checked at the opening, used by the mode or not. */
 struct bizhgemu_config {
 	/* Durations in nanoseconds, each at most 60,000,000,000. */
-	uint64_t delay;                     /* how long a sorted queue keeps a packet */
+	uint64_t delay;                     /* sorted: from when a packet was due, by its timestamp, to its hand-out */
 	uint64_t initial_nack_delay;        /* from the detection of a gap to its first NACK */
 	uint64_t default_nack_resend_delay; /* from one NACK to the next while no round trip was measured */
 	uint64_t nack_window;               /* has no effect, as in the original queue */
@@ -108,7 +108,7 @@ struct bizhgemu_config {
 /* A session: everything but the storage. Readable by anyone, changed by the calls alone. */
 struct bizhgemu_session {
 	struct bizhgemu_config config;
-	uint64_t clock;             /* the latest accepted instant */
+	uint64_t clock;             /* the instant of the latest accepted push or poll */
 	/* The media packet with the highest number: when it came, its extended timestamp and number. */
 	uint64_t has_last;
 	uint64_t last_instant;
@@ -121,12 +121,12 @@ struct bizhgemu_session {
 	uint64_t has_rtt;
 	uint64_t srtt;
 	uint64_t variation;
-	/* Repairs: how many came in time, too late, of numbers not missing; payload bytes of those in time. */
+	/* Repairs: how many came in time, too late, and others of numbers not missing; payload bytes of those in time. */
 	uint64_t rtx_in_time;
 	uint64_t rtx_too_late;
 	uint64_t rtx_redundant;
 	uint64_t rtx_bytes;
-	/* Media: packets dropped or pushed out, packets queued, their payload bytes, numbers given up. */
+	/* Media dropped and packets pushed out, repairs too; media queued, their payload bytes; numbers given up. */
 	uint64_t dropped;
 	uint64_t received;
 	uint64_t bytes;

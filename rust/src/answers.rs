@@ -6,7 +6,8 @@ pub enum Media {
     /// It waits to be handed out. With [`Config::max_entries`](crate::Config::max_entries) already waiting, the front one was
     /// pushed out, which may be this very packet.
     Queued,
-    /// A duplicate, or too late. Many in a row: the sender restarted, and a new session is due.
+    /// Its number is not missing: a duplicate, one before the first packet, or one handed out, given up or forgotten. Many in a
+    /// row: the sender restarted, and a new session is due.
     Dropped,
 }
 
@@ -53,8 +54,8 @@ pub struct Figures {
     pub packets_lost: u64,
     /// Payload bytes of the media packets queued.
     pub bytes_received: u64,
-    /// Running jitter. Packets with a timestamp not above that of the highest number so far do not count, so it reads lower
-    /// than RFC 3550's on a line that reorders.
+    /// Running jitter. Packets with a timestamp not above that of the highest number so far do not count, and it falls more
+    /// slowly than RFC 3550's.
     pub jitter: Duration,
     /// Running loss of the original stream, 0 to 1; a repaired packet counts as lost.
     pub loss: f32,

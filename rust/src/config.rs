@@ -37,7 +37,7 @@ pub struct Config {
     /// Clock rate of the RTP timestamps, 1 to 1,000,000 Hz: that of the payload format, not of the sound (G.722 has 8,000).
     /// A wrong one is refused nowhere; packets then wait too long or not at all. Default: 8,000.
     pub clock_rate: u32,
-    /// How long a sorted queue keeps a packet, at most 60 s. Default: 100 ms.
+    /// In sorted mode: from when a packet was due, by its timestamp, to its hand-out; at most 60 s. Default: 100 ms.
     pub delay: Duration,
     /// Depth D: packets kept, 1 to 1,024. At least `delay` / packet time + 1, twice that with repairs. 16 is enough for 100 ms
     /// of 20 ms packets and costs less in every call. Default: 100.

@@ -61,7 +61,7 @@ pub struct Remembered {
 }
 
 impl Queue {
-    /// The latest accepted instant; zero at the opening.
+    /// The instant of the latest accepted push or poll; zero at the opening.
     pub fn clock(&self) -> Duration {
         Duration::from_nanos(self.session.clock)
     }

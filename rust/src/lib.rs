@@ -1,5 +1,5 @@
 //! The receive queue of a radio link box: it takes the RTP packets of one sender in whatever order the network delivers them,
-//! says which are missing so that they can be asked for again, and hands them out in order.
+//! says which are missing so that they can be asked for again, and hands them out, in sorted mode in order.
 //!
 //! The queue itself is written in Rattle and proved: for every input its answer, its state and every byte of its storage are
 //! what the definitions in this repository say, and a call it refuses changes nothing. This crate is the thin safe layer

@@ -75,16 +75,17 @@ macro_rules! lend {
 #[cfg(test)]
 pub(crate) use lend;
 
-/// The receive queue of one RTP stream. It owns its session and storage; opening is the only time it allocates.
+/// The receive queue of one RTP stream. It owns its session and storage; it allocates when it is opened or cloned.
 ///
 /// Instants are durations since a start that you choose, not over 52 days back, from one [`Clock`](crate::Clock). `push`,
 /// `push_rtx`, `poll` and `poll_nack` advance the queue's clock where they are accepted; an instant before it is refused under
 /// 8, and so is one above [`LATEST`](crate::LATEST). The timeouts don't advance it.
 ///
-/// The numbers under "Errors" stand in the order in which they are checked. Every call looks through session and storage
-/// first and refuses under 16 what is damaged; since a queue owns both, that means that memory was overwritten. Calls that
-/// only read take `&mut self` because every accepted call leaves zeros in unused storage. [`figures`](Queue::figures) alone
-/// looks at no storage.
+/// The numbers under "Errors" stand in the order in which they are checked; "2 to 7" stands for 2 (under 12 bytes), 3, 2 (CSRCs
+/// and extension), 4, 5, 6, 7. Every call that may refuse looks through session and storage first, [`figures`](Queue::figures)
+/// through the session alone, and refuses under 16 what is damaged; since a queue owns both, that means that memory was
+/// overwritten, or that floats were not rounded to nearest. The calls that only read take `&mut self` because every accepted
+/// call leaves zeros in unused storage; `figures` and the readings that cannot refuse take `&self`.
 #[derive(Clone)]
 pub struct Queue {
     pub(crate) session: ffi::Session,

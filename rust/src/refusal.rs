@@ -20,7 +20,7 @@ pub enum Refusal {
     PayloadType,
     /// 7: the SSRC is not the session's.
     Ssrc,
-    /// 8: the instant is before the latest accepted one, or above [`LATEST`](crate::LATEST).
+    /// 8: the instant is before that of an accepted push or poll, or above [`LATEST`](crate::LATEST).
     Clock,
     /// 9: a repair for a session that was opened without RTX.
     NoRtx,
@@ -36,7 +36,8 @@ pub enum Refusal {
     Count,
     /// 15: the lent output is too short. [`Queue`](crate::Queue) never lends one that is.
     Output,
-    /// 16: session or storage is damaged. [`Queue`](crate::Queue) owns both, so memory was overwritten from elsewhere.
+    /// 16: session or storage is damaged. [`Queue`](crate::Queue) owns both, so memory was overwritten from elsewhere, or floats
+    /// were not rounded to nearest.
     Session,
 }
 
@@ -59,13 +60,13 @@ const TABLE: [(Refusal, &str, &str); 16] = [
     ),
     (
         Refusal::Padding,
-        "the datagram's padding counts 0 bytes, or more than follow the header",
+        "the datagram's padding counts 0 bytes, or more than follow the header, or has no count",
         "drop it; the sender or the path is damaging packets",
     ),
     (
         Refusal::PayloadTooLarge,
         "the payload is over 320 bytes (of a repair: over 322)",
-        "set the sender to 20 ms packets; each such packet is counted as lost later",
+        "set the sender to 20 ms packets; numbers of such packets go missing, and may count as lost",
     ),
     (
         Refusal::PayloadType,
@@ -79,7 +80,7 @@ const TABLE: [(Refusal, &str, &str); 16] = [
     ),
     (
         Refusal::Clock,
-        "the instant is before the latest accepted one, or past 2^52 - 1 nanoseconds (52 days)",
+        "the instant is before that of an accepted push or poll, or past 2^52 - 1 nanoseconds (52 days)",
         "take instants from one clock that never goes back; open a new session with a new clock before 52 days are over",
     ),
     (
@@ -96,8 +97,8 @@ const TABLE: [(Refusal, &str, &str); 16] = [
     (
         Refusal::GapsFull,
         "the packet would open more gaps than `max_gaps` allows",
-        "sorted: `poll` until nothing comes, then push the same datagram again; passthrough: call `poll_nack`, which gives numbers \
-         up; if it goes on, the path loses heavily or `max_gaps` is small",
+        "poll as the timeouts say, then push the same datagram again: gaps close in sorted mode when a packet above them is handed \
+         out, in passthrough after their last NACK; if it goes on, the path loses heavily or `max_gaps` is small",
     ),
     (
         Refusal::EntriesFull,
@@ -117,7 +118,7 @@ const TABLE: [(Refusal, &str, &str); 16] = [
     (
         Refusal::Session,
         "session or storage is damaged, or not that of these settings",
-        "open a new session; memory was overwritten, or storage of another session was lent",
+        "open a new session; memory was overwritten, storage of another session was lent, or floats were not rounded to nearest",
     ),
 ];
 

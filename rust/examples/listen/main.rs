@@ -150,7 +150,7 @@ impl<'a> Host<'a> {
     }
 }
 
-/// The SSRC of a well-formed RTP datagram of this payload type.
+/// The SSRC of an RTP datagram of this payload type, by its first 12 bytes.
 fn ssrc_of(datagram: &[u8], payload_type: u8) -> Option<u32> {
     let header = datagram.first_chunk::<12>()?;
     let matches = header[0] >> 6 == 2 && header[1] & 0x7f == payload_type;

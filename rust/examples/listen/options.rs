@@ -9,7 +9,7 @@ use std::time::Duration;
 const USAGE: &str = "usage: listen [OPTION VALUE ..]
   --address HOST:PORT  where RTP comes in                            127.0.0.1:5004
   --pt N               payload type of the media                     0
-  --ssrc N|any         its sender; any: that of the first datagram   any
+  --ssrc N|any         its sender; any: that of the first of this PT any
   --clock-rate HZ      clock rate of its timestamps                  8000
   --delay MS           how long packets are kept, or `none`          100
   --depth D            most packets kept                             100
@@ -46,7 +46,7 @@ impl Nacks {
 pub struct Options {
     pub address: String,
     pub config: Config,
-    /// None: that of the first datagram.
+    /// None: that of the first datagram of the payload type.
     pub ssrc: Option<u32>,
     pub nacks: Nacks,
     pub seconds: Option<Duration>,

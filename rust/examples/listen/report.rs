@@ -155,7 +155,7 @@ impl Report {
         let depth = config.max_entries;
         Some(match config.mode {
             Mode::SortedQueue => format!(
-                "{pushed_out} pushed out before they were due: D = {depth} is below delay / packet time; keep at least {} at 20 ms",
+                "{pushed_out} pushed out before they were due: D = {depth} is not above delay / packet time; keep at least {} at 20 ms",
                 config.delay.as_millis().div_ceil(20) + 1
             ),
             Mode::Passthrough => {
