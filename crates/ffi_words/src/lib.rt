@@ -186,6 +186,14 @@ fn rtx_of(s: SessionWords) -> RtxState
     }
 }
 
+fn jitter_of(s: SessionWords) -> Jitter
+    ensures { λ r. ⌜ r ≡ Words.queueOf s .jitter ⌝ }
+{
+    let clock_rate = floats::f64_of(s.jitter_clock_rate_bits);
+    let jitter = floats::f64_of(s.jitter_bits);
+    Jitter { clock_rate, jitter }
+}
+
 pub fn queue_of(s: SessionWords) -> Queue
     ensures { λ r. ⌜ r ≡ Words.queueOf s ⌝ }
 {
@@ -209,12 +217,7 @@ pub fn queue_of(s: SessionWords) -> Queue
         bytes: s.bytes,
         lost: s.lost,
     };
-    let clock_rate = floats::f64_of(s.jitter_clock_rate_bits);
-    let ticks = floats::f64_of(s.jitter_bits);
-    let jitter = Jitter {
-        clock_rate,
-        jitter: ticks,
-    };
+    let jitter = jitter_of(s);
     let loss = floats::f32_of(s.loss_bits);
     Queue {
         config,

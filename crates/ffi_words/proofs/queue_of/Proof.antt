@@ -16,11 +16,8 @@ returned-of-requires c κs = search needs
 rtx-of-requires : tie.Need-rtx-of-requires
 rtx-of-requires c κs = search needs
 
-f64-of-requires : tie.Need-f64-of-requires
-f64-of-requires c κs = search needs
-
-f64-of-requires-2 : tie.Need-f64-of-requires-2
-f64-of-requires-2 c κs = search needs
+jitter-of-requires : tie.Need-jitter-of-requires
+jitter-of-requires c κs = search needs
 
 f32-of-requires : tie.Need-f32-of-requires
 f32-of-requires c κs = search needs
@@ -37,7 +34,6 @@ queue-of-spec =
     last-of-requires
     returned-of-requires
     rtx-of-requires
-    f64-of-requires
-    f64-of-requires-2
+    jitter-of-requires
     f32-of-requires
     returns)
