@@ -25,7 +25,7 @@ use Rattle.model.specs.Calls.{Call, media, repair, poll, pollNack, timeoutRecei
 use Rattle.model.proofs.Lists.{by-cases, Each, each-first, each-imp, each-insert}
 use Rattle.book.specs.Book as B
 use Rattle.book.specs.Book.{Heard, refused, accepted, Span, none, fromTo, Book, arrive, forgottenBy, pushOut, withinDepth, onMedia, recover, onRepair, giveUp, takeLowest, onPoll, read, enter}
-use Rattle.book.specs.Claim.{hear, given, Forgets, step-over, push-out, ForgetsBy, by-media}
+use Rattle.book.specs.States.{hear, given, Forgets, step-over, push-out, ForgetsBy, by-media}
 use Rattle.model.proofs.Sound.{Ahead, ListsOf}
 use Rattle.model.proofs.SoundPush.{waiting-stands}
 use Rattle.book.proofs.Past.{PastOf, past-advance, past-hand, past-forget}

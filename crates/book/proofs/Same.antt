@@ -31,7 +31,7 @@ use Rattle.model.proofs.Lists.{by-cases}
 use Rattle.book.specs.Sorted.{putIn}
 use Rattle.book.specs.Book as B
 use Rattle.book.specs.Book.{accepted, Span, none, fromTo, Book, spanAfter, arrive, pushOut, onMedia, recover, notMissing, onRepair, giveUp, takeLowest, onPoll, enter}
-use Rattle.book.specs.Claim.{hear}
+use Rattle.book.specs.States.{hear}
 use Rattle.model.proofs.Sound.{ListsOf, ahead-to}
 use Rattle.book.proofs.Count.{either}
 use Rattle.book.proofs.Past.{gap-ahead, same-place, Past, no-sample, none-forgotten}

@@ -1,6 +1,7 @@
--- The book, the claim over every list of calls, and 01's table of proved rows.
+-- The book, the claim over every run of states and every list of calls, and 01's table of proved rows.
 pub mod Sorted
 pub mod Book
+pub mod States
 pub mod Claim
 pub mod Code
 pub mod Rows

@@ -2,6 +2,12 @@
 ghost use Rattle.book.specs.Claim.{EveryListOfCalls};
 ghost use Rattle.book.specs.Code.{EveryRun};
 ghost use Rattle.book.specs.Rows.{RowsHold};
+ghost use Rattle.book.specs.States.{EveryRunOfStates};
+
+// Demand 3 over runs of states, however they are stored; the two below are instances of it.
+pub fn every_run_of_states()
+    ensures { λ r. ⌜ EveryRunOfStates ⌝ }
+{}
 
 // Demand 3.
 pub fn every_list_of_calls()

@@ -15,7 +15,7 @@ use Rattle.model.specs.Did.{did, turnedBack}
 use Rattle.model.specs.Flipped.{TurnedBack, FlippedBit}
 
 -- what is refused does nothing
-refused-does : (k : ℕ) (c : Call) (m : Stored) → 0 < k → refusal c m ≡ k → did c m ≡ turnedBack k c m
+pub refused-does : (k : ℕ) (c : Call) (m : Stored) → 0 < k → refusal c m ≡ k → did c m ≡ turnedBack k c m
 unfolding did
 refused-does k c m positive e = rw e (rw (ne-eqb k 0 (λ z. omega arith)) refl)
 

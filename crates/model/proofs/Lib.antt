@@ -9,3 +9,5 @@ pub mod SoundPush
 pub mod SoundPoll
 pub mod SoundCalls
 pub mod Flipped
+pub mod Apart
+pub mod Across

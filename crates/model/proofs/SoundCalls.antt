@@ -17,7 +17,7 @@ use Rattle.model.specs.declared.Config.{Config}
 use Rattle.rtp.specs.Opt.{numberOf}
 use Rattle.model.specs.Records.{State, newQueue, newState, highestOf}
 use Rattle.model.specs.Valid.{lastSound, sound}
-use Rattle.model.specs.Storage.{Stored, lengthsFit, parse, write}
+use Rattle.model.specs.Storage.{Storage, Stored, lengthsFit, parse, write}
 use Rattle.model.specs.Calls.{Call, media, repair, poll, pollNack, timeoutReceive, timeoutNack, rtxStats, highestReceived, taken}
 use Rattle.model.specs.Table.{configValid, sessionSound, sessionRefusal, callRefusal, refusal, openingRefusal}
 use Rattle.model.specs.Did.{accepted, did}
@@ -32,7 +32,7 @@ use Rattle.model.proofs.SoundPoll.{poll-sound, poll-nack-sound}
 
 -- ---- the opening
 
-new-sound : (c : Config) → T (configValid c) → Sound (newState c)
+pub new-sound : (c : Config) → T (configValid c) → Sound (newState c)
 unfolding newState newQueue lastSound optRttInRange Returned highestOf numberOf
 new-sound c v =
     record {
@@ -105,10 +105,14 @@ pub did-taken : (k : Call) (m : Stored) → refusal k m ≡ 0 → did k m .store
 unfolding did accepted
 did-taken k m e = rw (eq-eqb (refusal k m) 0 e)
 
-pub stays-sound : StaysSound
+-- settings that the opening takes
+pub config-of : (c : Config) (t : Storage) → openingRefusal c t ≡ 0 → T (configValid c)
 unfolding openingRefusal
+config-of c t e = not-not (configValid c) (not-refused (not (configValid c)) SETTINGS (lit< tt) (orElse-none _ _ e .0))
+
+pub stays-sound : StaysSound
 stays-sound =
     record {
-      at-opening = λ c t e. written (newState c) (new-sound c (not-not (configValid c) (not-refused (not (configValid c)) SETTINGS (lit< tt) (orElse-none _ _ e .0))));
+      at-opening = λ c t e. written (newState c) (new-sound c (config-of c t e));
       at-call = λ k m e. subst (λ (x : Stored). sessionRefusal x ≡ 0) (sym (did-taken k m e)) (written (taken k (parse m)) (left-sound k m e));
     }

@@ -12,3 +12,4 @@ pub mod Did
 pub mod Contract
 pub mod StaysSound
 pub mod Flipped
+pub mod Across

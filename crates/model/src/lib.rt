@@ -1,5 +1,6 @@
 // The records of the queue (000) as they go in and come back by value, beside the storage that the caller lends. No code: specs/
 // holds what the queue is, for the contracts and for the theorem over every list of calls alike.
+ghost use Rattle.model.specs.Across.{FlippedAcross};
 ghost use Rattle.model.specs.Flipped.{FlippedBit};
 ghost use Rattle.model.specs.StaysSound.{StaysSound};
 use config::Senders;
@@ -67,4 +68,9 @@ pub fn stays_sound()
 // nothing is altered.
 pub fn flipped_bit()
     ensures { λ r. ⌜ FlippedBit ⌝ }
+{}
+
+// Neither call takes it, media or repair, where media and repairs are at least two bits apart in payload type and sender together.
+pub fn flipped_across()
+    ensures { λ r. ⌜ FlippedAcross ⌝ }
 {}
