@@ -21,9 +21,9 @@ use Rattle.model.specs.Records.{Gap, Remembered}
 
 -- ---- numbers
 
--- "The first packet is extended with cycle 0."
+-- 02, point 2: "The first packet is henceforth extended with cycle 1, for numbers (65,536 added) and timestamps (2^32 added)"
 abbrev pub firstCycle : ℕ
-firstCycle = 0
+firstCycle = 1
 
 -- a number of w bits, extended by the reference, if there is one
 unfoldable pub extended : ℕ → Opt → ℕ → ℕ

@@ -20,13 +20,18 @@ pub mod poll;
 pub mod push;
 pub mod rtx;
 
-// The number that `got` stands for; before the first media packet its own, in cycle 0.
+// 02, point 2: the first packet is in cycle 1, so that what is under half a cycle behind it reads as earlier.
+const FIRST_NUMBER_CYCLE: u64 = 65536;
+
+const FIRST_TIMESTAMP_CYCLE: u64 = 4294967296;
+
+// The number that `got` stands for; before the first media packet its own, in the first cycle.
 pub fn extended_number(q: Queue, got: SequenceNumber) -> ExtendedSequenceNumber
     ensures { λ r. ⌜ r .0 ≡ Push.extendedNumber q (got .0) ⌝ }
 {
     let last = q.last;
     match last {
-        LastReceived::None => ExtendedSequenceNumber(got.0 as u64),
+        LastReceived::None => ExtendedSequenceNumber(FIRST_NUMBER_CYCLE + got.0 as u64),
         LastReceived::Some(r) => r.number.guess_extended(got),
     }
 }
@@ -36,7 +41,7 @@ pub fn extended_timestamp(q: Queue, got: RtpTimestamp) -> ExtendedRtpTimestamp
 {
     let last = q.last;
     match last {
-        LastReceived::None => ExtendedRtpTimestamp(got.0 as u64),
+        LastReceived::None => ExtendedRtpTimestamp(FIRST_TIMESTAMP_CYCLE + got.0 as u64),
         LastReceived::Some(r) => r.timestamp.guess_extended(got),
     }
 }
