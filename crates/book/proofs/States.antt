@@ -64,9 +64,9 @@ module _ (b : Book) (t : Tally b) where
 
 -- ---- what runs along
 
-record Inv (c : Config) (s : State) (b : Book) (returned : List ℕ) : Type 0 where
-  tally : Tally b
-  same : Same c s b
+pub record Inv (c : Config) (s : State) (b : Book) (returned : List ℕ) : Type 0 where
+  pub tally : Tally b
+  pub same : Same c s b
   past : PastOf (c .settings .mode) (b .handed) s
   returned-are : returned ≡ map (lowBits 16) (b .handed)
   lost-are : s .queue .counters .lost ≡ length (b .lost)
@@ -100,16 +100,17 @@ in-order SortedQueue s out p = past-ascends (numberOf (s .queue .returned)) out 
 
 -- ---- runs
 
-record Kept (c : Config) (x : View) : Type 0 where
-  sound : Sound (x .state)
-  inv : Inv c (x .state) (x .book) (x .returned)
+-- what runs along, for this theorem and for others over runs
+pub record Kept (c : Config) (x : View) : Type 0 where
+  pub sound : Sound (x .state)
+  pub inv : Inv c (x .state) (x .book) (x .returned)
 
 kept-next : {c : Config} {x y : View} {k : Call} → Kept c x → Next c x k y → Kept c y
 unfolding after
 kept-next r stays = r
 kept-next {x = x} {k = k} r (moves e) = record { sound = taken-sound k (x .state) (r .sound) e; inv = inv-taken k (r .sound .lists-in) (r .inv) }
 
-kept : {c : Config} {x : View} → Ran c x → Kept c x
+pub kept : {c : Config} {x : View} → Ran c x → Kept c x
 unfolding opened
 kept {c} (opening v) = record { sound = new-sound c (subst T (sym v) tt); inv = inv-new c }
 kept (further r n) = kept-next (kept r) n

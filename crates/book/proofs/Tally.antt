@@ -68,7 +68,7 @@ count-grown : (k f h n : ℕ) → f ≤ h → h < n → count k (following f (su
 count-grown k f h n ok lt =
     omega (arith, ap (count k) (grown f h n ok lt), count-append k (following f (suc h - f)) (between h n ++ (n ∷ [])), count-append k (between h n) (n ∷ []), count-one k n)
 
-run-of-one : (k n : ℕ) → count k (following n (suc n - n)) ≡ same k n
+pub run-of-one : (k n : ℕ) → count k (following n (suc n - n)) ≡ same k n
 unfolding following
 run-of-one k n = ap (λ (x : ℕ). count k (following n x)) e ∙ count-one k n
   where

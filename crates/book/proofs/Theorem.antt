@@ -1,8 +1,8 @@
 -- Demand 3 of stored sessions: a call on what is stored is a step of the state that is read there, refused or taken, so the theorem over
 -- runs of states holds of every list of calls.
-use mathlib.Core.Path.{_≡_, refl, ap, subst}
+use mathlib.Core.Path.{_≡_, refl, sym, ap, _∙_, subst}
 use mathlib.Core.Bool.{Bool, true, false, cond}
-use mathlib.Core.List.{List, [], _∷_, _++_, foldl, append-nil}
+use mathlib.Core.List.{List, [], _∷_, _++_, foldl, foldl-append, append-nil}
 use Prim.Native.Nat.{ℕ}
 use native.Mathlib.Omega.{arith}
 use lib.Dec.{T, eqb, eqb→eq}
@@ -13,8 +13,8 @@ use Rattle.model.specs.declared.Config.{Config}
 use Rattle.model.specs.declared.Session.{Session}
 use Rattle.model.specs.Records.{newState}
 use Rattle.model.specs.Storage.{Storage, Stored, parse, write}
-use Rattle.model.specs.Calls.{Call, taken}
-use Rattle.model.specs.Table.{sessionRefusal, refusal, openingRefusal}
+use Rattle.model.specs.Calls.{Call, taken, answered}
+use Rattle.model.specs.Table.{sessionRefusal, callRefusal, refusal, openingRefusal}
 use Rattle.model.specs.Did as D
 use Rattle.model.specs.Did.{Done, did, turnedBack, accepted, session, opened}
 use Rattle.model.proofs.Laid.{parse-write}
@@ -60,6 +60,20 @@ module _ (c : Config) (x : Run) (k : Call) where
   unfolding call did
   next-call = by-cases (λ (d : Done). Next c (viewOf x) k (viewOf (after d))) (eqb (refusal k (x .stored)) 0) next-accepted (λ t. next-refused)
 
+-- a call that no check catches: what is read afterwards, and what was answered
+module _ (c : Config) (x : Run) (k : Call) (e : refusal k (x .stored) ≡ 0) where
+  pub call-taken : parse (call c x k .stored) ≡ taken k (parse (x .stored))
+  unfolding call
+  call-taken = ap parse (did-taken k (x .stored) e) ∙ read-taken k (x .stored) e
+
+  pub call-answer : did k (x .stored) .answer ≡ answered k (parse (x .stored))
+  unfolding did accepted
+  call-answer = rw (eq-eqb (refusal k (x .stored)) 0 e)
+
+  pub not-caught : callRefusal k (parse (x .stored)) ≡ 0
+  unfolding refusal
+  not-caught = orElse-none _ _ e .1
+
 ran-calls : (c : Config) (ks : List Call) (x : Run) → Ran c (viewOf x) → Ran c (viewOf (foldl (call c) x ks))
 ran-calls c [] x r = r
 ran-calls c (k ∷ ks) x r = ran-calls c ks (call c x k) (S.further r (next-call c x k))
@@ -104,6 +118,13 @@ unfolding call
 made-ran {c} (opening t {u = u} {s = s} o) = let e = opened-is c t u s o in subst (λ (x : Run). Ran c (viewOf x)) (e .1) (ran-start c t (e .0))
 made-ran {c} (further {x = x} k m e) = subst (λ (d : Done). Ran c (viewOf (after c x k d))) e (S.further (made-ran m) (next-call c x k))
 
+-- what code leaves is what `calls` says
+made-calls : {c : Config} {ks : List Call} {x : Run} → Made c ks x → x ≡ calls c ks
+unfolding calls call
+made-calls {c} (opening t {u = u} {s = s} o) = sym (opened-is c t u s o .1)
+made-calls {c} (further {ks = ks} {x = x} k m e) =
+    ap (after c x k) (sym e) ∙ ap (λ (y : Run). call c y k) (made-calls m) ∙ sym (foldl-append (call c) (start c) ks (k ∷ []))
+
 -- check 16 passes what stands there
 passes : (k : Call) (m : Stored) → sessionRefusal m ≡ 0 → sessionRefusal (did k m .stored) ≡ 0
 unfolding did accepted turnedBack
@@ -120,6 +141,7 @@ made-sound {c} (further {x = x} k m e) = subst (λ (d : Done). sessionRefusal (d
 pub every-run : EveryRun
 every-run =
     record {
+      is-calls = λ c ks x m. made-calls m;
       holds = λ c ks x m. every-run-of-states .holds c _ (made-ran m);
       steps = λ c ks x k m. every-run-of-states .steps c _ _ k (made-ran m) (next-call c x k);
     }

@@ -4,4 +4,7 @@ pub mod Book
 pub mod States
 pub mod Claim
 pub mod Code
+pub mod First
+pub mod Samples
+pub mod Nacks
 pub mod Rows

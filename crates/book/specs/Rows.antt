@@ -1,15 +1,16 @@
--- 01, "Examples": the rows marked P, as one table, and the row on the initial delay. Rows on media numbers are real calls on a newly opened
+-- 01, "Examples": the rows marked P, as one table, the row on the initial delay, and the figures of 02's points 2 and 5. Rows on media numbers are real calls on a newly opened
 -- session in its storage.
 use mathlib.Core.Path.{_≡_}
 use mathlib.Core.Bool.{Bool, true, false, cond}
 use mathlib.Core.List.{List, [], _∷_, map, foldl}
-use Prim.Native.Nat.{ℕ, _/_, _%_}
-use lib.Dec.{eqb}
-use lib.ListN.{length}
+use Prim.Native.Nat.{ℕ, _+_, _*_, _/_, _%_}
+use lib.Dec.{eqb, ltb}
+use lib.ListN.{length, replicate}
 use Rattle.rtp.specs.declared.opt.Opt.the-variants as Opt
 use Rattle.rtx_state.specs.declared.OptRtt.{OptRtt}
 use Rattle.rtx_state.specs.declared.OptRtt.the-variants as OptRtt
 use Rattle.rtx_state.specs.RoundTrip.{sampledRtt}
+use Rattle.rtx_state.specs.Drift.{recurrence}
 use Rattle.config.specs.declared.RtpInboundQueueMode.the-variants.{SortedQueue}
 use Rattle.rtp_packet.specs.Original.{originalRefusal, originalNumber, originalPayload}
 use Rattle.model.specs.declared.Config.{Config}
@@ -32,6 +33,8 @@ pub data Question : Type 0 where
   repairPayload : List ℕ → Question
   -- a gap that was never NACKed
   nackDue : (initialDelay detected now : ℕ) → Question
+  -- whether the srtt is less than so many nanoseconds below the recurrence, after these samples
+  drift : (bound first : ℕ) → List ℕ → Question
 
 pub data Found : Type 0 where
   number : ℕ → Found
@@ -41,6 +44,7 @@ pub data Found : Type 0 where
   original : (number : ℕ) (payload : List ℕ) → Found
   refused : ℕ → Found
   isDue : Bool → Found
+  isWithin : Bool → Found
 
 pub record Row : Type 0 where
   pub asked : Question
@@ -64,8 +68,8 @@ rows =
     ∷ record { asked = counts 2 (10 ∷ 1010 ∷ []); said = counted 999 0 }
     -- "D = 2, 10 then 1,011: none, 1,000 forgotten"
     ∷ record { asked = counts 2 (10 ∷ 1011 ∷ []); said = counted 0 1000 }
-    -- "D = 1, numbers 10, 12: lists 10, 11, 12 and 11, 12"
-    ∷ record { asked = lists 1 (10 ∷ 12 ∷ []); said = listed (10 ∷ 11 ∷ 12 ∷ []) (11 ∷ 12 ∷ []) }
+    -- "D = 1, numbers 10, 12": by 02, point 2, "65,546 to 65,548, and 65,547, 65,548"
+    ∷ record { asked = lists 1 (10 ∷ 12 ∷ []); said = listed (65546 ∷ 65547 ∷ 65548 ∷ []) (65547 ∷ 65548 ∷ []) }
     -- "samples 80, 100: srtt 82, variation 35"
     ∷ record { asked = samples (80 ∷ 100 ∷ []); said = estimate (OptRtt.Some (record { srtt = 82; variation = 35 })) }
     -- "repair payload 00 0B (hexadecimal): number 11, empty payload"
@@ -75,6 +79,9 @@ rows =
     -- "Initial delay 5,000,000, detected at 0: due at 5,000,000, not at 4,999,999" (not marked P)
     ∷ record { asked = nackDue 5000000 0 5000000; said = isDue true }
     ∷ record { asked = nackDue 5000000 0 4999999; said = isDue false }
+    -- 02, point 5, "less than 14 nanoseconds below": not less than 13, on a first sample of 1 and twenty of 15
+    ∷ record { asked = drift 14 1 (replicate 20 15); said = isWithin true }
+    ∷ record { asked = drift 13 1 (replicate 20 15); said = isWithin false }
     ∷ []
 
 -- ---- what is found
@@ -96,6 +103,10 @@ datagram n = 0x80 ∷ 0 ∷ n / 256 ∷ n % 256 ∷ 0 ∷ 0 ∷ 0 ∷ 0 ∷ 0 �
 unfoldable pub received : ℕ → List ℕ → Run
 received D numbers = calls (config D 5000000) (map (λ (n : ℕ). media 0 (datagram n)) numbers)
 
+unfoldable pub srttIn : OptRtt → ℕ
+srttIn OptRtt.None = 0
+srttIn (OptRtt.Some e) = e .srtt
+
 unfoldable pub answer : Question → Found
 unfolding received
 answer (reference highest n) = number (extended 16 (Opt.Some highest) n)
@@ -103,6 +114,8 @@ answer (counts D numbers) = counted (length (parse (received D numbers .stored) 
 answer (lists D numbers) = listed (expected (received D numbers .book)) (sort (accounted (received D numbers .book)))
 answer (samples l) = estimate (foldl sampledRtt OptRtt.None l)
 answer (nackDue initialDelay detected now) = isDue (due (timingsIn (config 1 initialDelay) OptRtt.None) now (fresh detected 0))
+answer (drift bound r rs) =
+    isWithin (ltb (recurrence r rs .numerator) ((srttIn (foldl sampledRtt OptRtt.None (r ∷ rs)) + bound) * recurrence r rs .denominator))
 answer (repairPayload p) = cond (eqb (originalRefusal p) 0) (original (originalNumber p) (originalPayload p)) (refused (originalRefusal p))
 
 unfoldable pub RowsHold : Type 0

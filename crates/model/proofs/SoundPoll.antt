@@ -29,12 +29,12 @@ gapNumber g = g .number
 -- ---- the gaps that stay
 
 module _ (set : Settings) where
-  part-not-given-up : (mode : RtpInboundQueueMode) {l : List Gap} (P : Gap → Type 0) → Each P l → Each P (notGivenUpIn mode set l)
+  pub part-not-given-up : (mode : RtpInboundQueueMode) {l : List Gap} (P : Gap → Type 0) → Each P l → Each P (notGivenUpIn mode set l)
   unfolding notGivenUpIn
   part-not-given-up Passthrough P h = each-trailing (tried (set .«max_nack_attempts»)) h
   part-not-given-up SortedQueue P h = h
 
-  rising-not-given-up : (mode : RtpInboundQueueMode) {l : List Gap} → Rising gapNumber l → Rising gapNumber (notGivenUpIn mode set l)
+  pub rising-not-given-up : (mode : RtpInboundQueueMode) {l : List Gap} → Rising gapNumber l → Rising gapNumber (notGivenUpIn mode set l)
   unfolding notGivenUpIn
   rising-not-given-up Passthrough h = rising-trailing _ (tried (set .«max_nack_attempts»)) h
   rising-not-given-up SortedQueue h = h
@@ -44,7 +44,7 @@ module _ (set : Settings) where
   length-not-given-up Passthrough l = length-trailing (tried (set .«max_nack_attempts»)) l
   length-not-given-up SortedQueue l = omega arith
 
-part-left : (mode : RtpInboundQueueMode) (n : ℕ) {l : List Gap} (P : Gap → Type 0) → Each P l → Each P (leftFrom mode n l)
+pub part-left : (mode : RtpInboundQueueMode) (n : ℕ) {l : List Gap} (P : Gap → Type 0) → Each P l → Each P (leftFrom mode n l)
 unfolding leftFrom gapsFrom
 part-left Passthrough n P h = h
 part-left SortedQueue n P h = each-keep (λ (g : Gap). not (below n g)) h

@@ -41,7 +41,7 @@ pub data Stands (highest : Opt) (gaps : List Gap) (n : ℕ) : Place → Type 0 w
   is-gap : T (some? (is n) gaps) → Stands highest gaps n fills
   is-other : Stands highest gaps n other
 
-stands : (highest : Opt) (gaps : List Gap) (n : ℕ) → Stands highest gaps n (placeOf highest gaps n)
+pub stands : (highest : Opt) (gaps : List Gap) (n : ℕ) → Stands highest gaps n (placeOf highest gaps n)
 unfolding placeOf
 stands None gaps n = is-first refl
 stands (Some h) gaps n =
