@@ -5,6 +5,10 @@ from fractions import Fraction
 from functools import lru_cache
 
 
+LEAST_RESEND = 10**6    # nanoseconds: the floor under the delay from an estimate
+FIRST_CYCLE = 1
+
+
 def extended(reference, low, bits):
     cycle = 1 << bits
     base = reference - reference % cycle + low
@@ -18,7 +22,7 @@ def seconds(nanoseconds):
 
 @lru_cache(maxsize=1 << 12)
 def resend_after(srtt, variation):
-    return round(Fraction(seconds(srtt) + seconds(variation) * 1.5) * 10**9)
+    return max(LEAST_RESEND, round(Fraction(seconds(srtt) + seconds(variation) * 1.5) * 10**9))
 
 
 class Model:
@@ -30,10 +34,10 @@ class Model:
         self.remembered = {}    # extended number: NACK instant, oldest first
 
     def number(self, low):
-        return extended(self.last[2], low, 16) if self.last else low
+        return extended(self.last[2], low, 16) if self.last else (FIRST_CYCLE << 16) + low
 
     def timestamp(self, low):
-        return extended(self.last[1], low, 32) if self.last else low
+        return extended(self.last[1], low, 32) if self.last else (FIRST_CYCLE << 32) + low
 
     def late(self, number):
         return self.mode == 1 and self.returned is not None and number <= self.returned

@@ -309,7 +309,7 @@ def wraps(w):
     number, timestamp = w.pick(65533, 65535, 0, 40000), 2**32 - w.random.randrange(1, 500)
     w.media(now, number, timestamp)
     if number < 5:
-        w.media(now, 65535, timestamp, "number below 0 in the first cycle")
+        w.media(now, 65535, timestamp, "number before the first, across the turn")
     for _ in range(w.random.randrange(3, 9)):
         while m.last[2] % 65536 < 65530:
             to = 65531 - m.last[2] % 65536
@@ -329,6 +329,48 @@ def wraps(w):
             if w.chance(0.5):
                 w.poll(w.later())
     w.line("state", f"state in cycle {m.last[2] >> 16}")
+
+
+def joins(w):
+    """An operator who joins late: next after the first packet, numbers and timestamps behind it and ahead, at half a cycle too."""
+    for _ in range(w.random.randrange(4, 9)):
+        w.open(depth=w.pick(2, 20), delay=w.pick(0, 20 * MS))
+        m, now = w.model, w.random.randrange(2**30)
+        number, timestamp = w.pick(0, 5, 32767, 32768, 65535, w.random.randrange(2**16)), w.pick(0, 5, 2**31, 2**32 - 1, w.random.randrange(2**32))
+        w.media(now, number, timestamp)
+        if w.chance(0.3):
+            w.poll(w.later())
+        behind, earlier = w.pick(1, 2, 11, 32766, 32767), w.pick(0, 1, 160, 2**31 - 1, 2**31)
+        for _ in range(w.random.randrange(1, 4)):
+            w.media(w.later(), number - behind, timestamp - earlier, "number before the first")
+            behind = w.pick(behind, 1, w.random.randrange(1, 32768))
+        w.line("state", "state after a number before the first")
+        ahead = w.pick(1, 2, 1000, 1001, 32767, 32768)
+        w.media(w.later(), number + ahead, timestamp + w.pick(160, 2**31 - 1, 2**31), "half a cycle from the first" if ahead == 32768 else "number after the first")
+        w.media(w.later(), number - 1, timestamp, "number before the first, once another came")
+        w.line("state")
+        w.look(m.clock)
+
+
+def wired(w):
+    """A wired bench: the round trip measures next to nothing, and NACKs wait for the floor under the resend delay."""
+    w.open(initial=w.pick(0, 0, 5 * MS), resend=w.pick(0, 20 * MS), rtx=1, max=w.pick(3, 255), delay=60000 * MS, depth=w.pick(20, 100))
+    m, now, timestamp = w.model, w.random.randrange(2**30), 0
+    number = w.random.randrange(2**16)
+    w.media(now, number, timestamp)
+    for _ in range(w.random.randrange(5, 12)):
+        number, timestamp = number + w.pick(2, 2, 3, 8), timestamp + 160
+        w.media(w.later(), number, timestamp)
+        w.poll_nack(m.clock)
+        w.nack_at_due()
+        if m.rtt is None or w.chance(0.4):
+            for missing in list(m.gaps)[:1]:
+                w.repair(m.clock + w.pick(0, 1, 1000, 400000, 399999, 800000), missing, timestamp, "short round trip")
+        first = m.clock
+        for at in (first, first + 1, first + 999999, first + 1000000, first + 1000001):
+            if at >= m.clock:
+                w.poll_nack(at, "NACK near the floor of the resend delay" if m.rtt else None)
+        w.look(m.clock)
 
 
 def full(w):
@@ -597,7 +639,7 @@ def lines(w):
 def far(w):
     """Timestamps to the end of their range, near half a cycle at a time: refusal 14."""
     w.open(mode=w.pick(0, 1), depth=1, max_gaps=999, clock_rate=w.pick(1, 8000), rtx=1)
-    m, number, timestamp = w.model, 0, 2**32 - 1
+    m, number, timestamp = w.model, 2**16, 2**33 - 1    # the first packet, in cycle 1
     w.media(0, number, timestamp)
     while timestamp + 2**31 - 1 <= MAX_INSTANT:
         number, timestamp = number + 1, timestamp + 2**31 - 1
@@ -627,7 +669,7 @@ def far(w):
 
 
 # How often each is drawn; `far` is not
-WEIGHTS = {stream: 6, mixture: 10, due_instants: 4, limits: 4, jitter: 3, deep: 0.3, steps: 2, wraps: 2, full: 3, remembered: 1,
+WEIGHTS = {stream: 6, mixture: 10, due_instants: 4, limits: 4, jitter: 3, deep: 0.3, steps: 2, wraps: 2, joins: 2, wired: 2, full: 3, remembered: 1,
            giving_up: 3, wide: 2, clocks: 1, malformed: 1, flips: 1, openings: 1, lines: 1}
 PROFILES = {profile.__name__: profile for profile in (*WEIGHTS, far)}
 

@@ -37,3 +37,13 @@ fn story() {
 fn rows_of_the_scope_document() {
     compare("examples/rows.trace", "examples/rows.answers");
 }
+
+#[test]
+fn late_joiner() {
+    compare("examples/late_joiner.trace", "examples/late_joiner.answers");
+}
+
+#[test]
+fn storm() {
+    compare("examples/storm.trace", "examples/storm.answers");
+}

@@ -13,7 +13,6 @@ use borrow.Author.Tests.{ltb-true, ltb-false, leb-true, le-leb, lt-leb}
 use Rattle.words.specs.Words.{over, padded, cut, inserted}
 use Rattle.words.specs.Blocks.{blocks, firsts, laid}
 use Rattle.words.specs.Order.{ascends, rank}
-use Rattle.words.proofs.Over.{take-over}
 use Rattle.words.proofs.Moves.{length-padded}
 use Rattle.words.proofs.Blocked.{word-at, length-firsts}
 use Rattle.words.proofs.Records.{Holds, holds-drop, holds-inserted, holds-replaced}
@@ -214,9 +213,3 @@ module _ (words bytes : List ℕ) (n : ℕ) (k : EntriesIn words bytes n) (h : 0
 
   pub front-is : take 1 (entriesOf words bytes n) ≡ entry r (take (r .size) bytes) ∷ []
   front-is = take-suc (entriesOf words bytes n) 0 noEntry (rw length-entriesOf h) ∙ ap (λ (x : Entry). x ∷ []) (place-is words bytes n 0 h r e (k .places) (k .fit))
-
--- what was copied to the front of a buffer is read there
-pub buffered : (size : ℕ) (bytes z buffer : List ℕ) → size ≤ length bytes → buffer ≡ over (take size bytes) z → take size buffer ≡ take size bytes
-buffered size bytes z buffer h e =
-    let l : length (take size bytes) ≡ size = length-take-le size bytes h in
-    ap (take size) e ∙ take-over size (take size bytes) z (omega arith) ∙ take-take size size bytes (omega arith)
