@@ -245,7 +245,7 @@ nacks-apart =
           let g = subst (λ (l : List Gap). T (some? (is n) l)) (named-is later (ky .inv .same)) further in
           let i : Since now n (parse (call c x (pollNack now out) .stored)) = subst (Since now n) (sym (call-taken c x (pollNack now out) e)) (since-now now n (parse (x .stored)) (kx .sound) f) in
           let j : Since now n (parse (y .stored)) = subst (λ (r : Run). Since now n (parse (r .stored))) (sym (foldl-append (call c) (start c) ks (pollNack now out ∷ js))) (calls-since now n c (call c x (pollNack now out)) js i) in
-          by-measured m (λ r q. again later n (parse (y .stored)) (ky .sound) g r (resend-is r (ky .inv .same) q) j);
+          by-measured m (λ r q. omega (arith, again later n (parse (y .stored)) (ky .sound) g r (resend-is r (ky .inv .same) q) j));
     }
   where
     by-measured : {c : Config} {b : Book} {X : Type 0} → Measured c b → ((r : RtxRtt) → estimateIn (c .senders .«has_rtx») (b .estimate) ≡ OptRtt.Some r → X) → X

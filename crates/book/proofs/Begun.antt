@@ -327,7 +327,7 @@ pub first-cycle : FirstCycle
 first-cycle =
     record {
       first = λ c t ks now d comes e. first-is comes e;
-      behind = λ c t ks now d f j comes e lo hi q. behind-is comes f e j lo hi q;
+      behind = λ c t ks now d f j comes e lo hi q. behind-is comes f e j lo (omega arith) q;
       earlier = λ c t ks now d f ts j comes e at h q. earlier-is comes f e ts j at h q;
-      ahead = λ c t ks now d f j comes e lo hi q. ahead-is comes f e j lo hi q;
+      ahead = λ c t ks now d f j comes e lo hi q. ahead-is comes f e j lo (omega arith) q;
     }
