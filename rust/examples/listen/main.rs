@@ -114,13 +114,13 @@ impl<'a> Host<'a> {
         if repair {
             match queue.push_rtx(now, datagram) {
                 Ok(Repair::Recovered) => self.report.recovered += 1,
-                Ok(Repair::Redundant | Repair::TooLate) => {}
+                Ok(_) => {}
                 Err(refusal) => self.report.refused(refusal, datagram),
             }
         } else {
             match queue.push(now, datagram) {
                 Ok(Media::Queued) => self.report.dropped_in_a_row = 0,
-                Ok(Media::Dropped) => self.report.dropped(),
+                Ok(_) => self.report.dropped(),
                 Err(refusal) => self.report.refused(refusal, datagram),
             }
         }

@@ -97,7 +97,7 @@ impl Options {
     }
 
     fn rtx(&mut self) -> &mut Rtx {
-        self.config.rtx.get_or_insert(Rtx { payload_type: 0, ssrc: 0 })
+        self.config.rtx.get_or_insert(Rtx::new(0, 0))
     }
 
     pub fn output(&self) -> io::Result<Box<dyn Write>> {

@@ -158,7 +158,7 @@ impl Report {
                 "{pushed_out} pushed out before they were due: D = {depth} is not above delay / packet time; keep at least {} at 20 ms",
                 config.delay.as_millis().div_ceil(20) + 1
             ),
-            Mode::Passthrough => {
+            _ => {
                 format!("{pushed_out} pushed out: D = {depth} came between two polls")
             }
         })
