@@ -37,7 +37,7 @@
 //! ```
 //!
 //! Whatever is wrong with a call comes back as a [`Refusal`], which says what it means and what to do about it; nothing panics, whatever
-//! the network sends.
+//! the network sends. [`Receiver`] does what a host must do about some of them, a new session among it, and is what most boxes want.
 //! [`Header`] tells which stream a datagram belongs to. `docs/USING.md` in the repository tells how to choose the settings and what
 //! real senders do; the example `listen` is a host that shows the signs of trouble.
 //!
@@ -58,6 +58,7 @@ mod ffi;
 mod header;
 mod inspect;
 mod queue;
+mod receiver;
 mod refusal;
 mod time;
 mod version;
@@ -70,6 +71,7 @@ pub use config::{Config, Mode, Rtx};
 pub use header::Header;
 pub use inspect::{Gap, LastReceived, Remembered, RoundTrip, Waiting};
 pub use queue::Queue;
+pub use receiver::{Event, Heard, Receiver, Rules, Sender, Taken, Tally, Why};
 pub use refusal::Refusal;
 #[cfg(feature = "std")]
 pub use time::Clock;
