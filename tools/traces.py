@@ -1,5 +1,7 @@
 """What the tools share of docs/TRACE.md: datagrams, the answers of each call, and reading files."""
 
+import contextlib
+import struct
 import sys
 
 FIELDS = "mode clock_rate depth max_gaps delay initial resend max pt ssrc rtx rtx_pt rtx_ssrc".split()
@@ -31,12 +33,25 @@ MEANINGS = {
 }
 
 
-def read(path):
-    """The text of a file; what cannot be read is said in a line."""
+def read_bytes(path):
+    """The bytes of a file; what cannot be read is said in a line."""
     try:
-        return path.read_text(errors="replace")
+        return path.read_bytes()
     except OSError as error:
         sys.exit(f"{path}: {error.strerror}")
+
+
+def read(path):
+    return read_bytes(path).decode(errors="replace")
+
+
+@contextlib.contextmanager
+def expected(words):
+    """What is read inside may be anything; where it is not what it should be these words are said."""
+    try:
+        yield
+    except (ValueError, LookupError, TypeError, AttributeError, struct.error):
+        sys.exit(words)
 
 
 def datagram(pt, number, timestamp, ssrc, payload=b"", marker=0, csrcs=0, extension=None, padding=0):
