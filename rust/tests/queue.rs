@@ -262,6 +262,10 @@ fn senders_one_bit_apart_are_told() -> Result<(), Refusal> {
         let turned = datagram(96 ^ 1, 13, 480, 0x10, &[0, 11, 3]);
         assert_eq!(queue.push_rtx(ms(41), &turned), answer);
     }
+    // voice and positions, as docs/USING.md has them
+    let (mut voice, mut positions) = (Config::pcmu(42), Config::opus(96, 41));
+    (voice.rtx, positions.rtx) = (Some(Rtx::new(99, 44)), Some(Rtx::new(101, 47)));
+    assert!(voice.two_bits_apart() && positions.two_bits_apart() && voice.bits_apart(&positions) >= 4);
     // 0x10 and 0x23 differ in three bits, 0x10 and the repairs' 0x21 in three, 0x31 and 0x23 in two
     let (one, other) = (with(96, 0x31), Config::opus(96, 0x23));
     assert_eq!((one.bits_apart(&other), other.bits_apart(&one), one.bits_apart(&one)), (2, 2, 0));

@@ -1,4 +1,4 @@
-// The library for C and Rust: the opening, the eight calls and two readings, on words that the caller keeps and storage that it lends.
+// The library for C and Rust: the opening, the eight calls, two readings and the version, on words that the caller keeps and storage that it lends.
 // No function asks anything of its caller but live slices of the lengths passed, none of which overlaps another that is written.
 ghost use mathlib.Core.Path.{_≡_};
 ghost use mathlib.Core.List.{[]};

@@ -16,6 +16,8 @@ pub struct Report {
     other_payload_type: Option<u8>,
     other_ssrc: Option<u32>,
     too_large: usize,
+    /// Whether it was said what to do about packets that are too large.
+    advised: bool,
     held: [u64; HELD],
     before: Before,
 }
@@ -28,6 +30,7 @@ impl Default for Report {
             other_payload_type: None,
             other_ssrc: None,
             too_large: 0,
+            advised: false,
             held: [0; HELD],
             before: Before::default(),
         }
@@ -165,7 +168,7 @@ impl Report {
     }
 
     /// docs/USING.md, "What real senders do".
-    fn signs(&self, figures: &Figures, receiver: &Receiver, rules: &Rules) -> Vec<String> {
+    fn signs(&mut self, figures: &Figures, receiver: &Receiver, rules: &Rules) -> Vec<String> {
         let (queue, config) = (receiver.queue(), receiver.config());
         let mut signs = Vec::new();
         let missing = figures.lost > self.before.lost || queue.gaps().len() > 0;
@@ -194,7 +197,7 @@ impl Report {
         signs
     }
 
-    fn size_sign(&self, figures: &Figures) -> Option<String> {
+    fn size_sign(&mut self, figures: &Figures) -> Option<String> {
         let (large, bytes) = (self.rose(figures, Refusal::PayloadTooLarge), self.too_large);
         if large == 0 {
             return None;
@@ -204,10 +207,15 @@ impl Report {
                 "{large} payloads over 320 bytes (the last: {bytes}): shorter packets or a lower bit rate at the sender"
             ));
         }
+        let advice = match std::mem::replace(&mut self.advised, true) {
+            true => "",
+            false => {
+                ". GStreamer's payloaders go up to mtu=1400: give max-ptime=20000000; ffmpeg's to pkt_size=1472: give ?pkt_size=172 for PCMU. \
+                 Above 128 kbit/s 20 ms do not fit either"
+            }
+        };
         Some(format!(
-            "nothing but refused 5, payloads over 320 bytes (the last: {bytes}): shorter packets or a lower bit rate at the sender. \
-             GStreamer's payloaders go up to mtu=1400: give max-ptime=20000000; ffmpeg's to pkt_size=1472: give ?pkt_size=172 for PCMU. \
-             From 128 kbit/s on 20 ms do not fit either"
+            "nothing but refused 5, payloads over 320 bytes (the last: {bytes}): shorter packets or a lower bit rate at the sender{advice}"
         ))
     }
 
