@@ -113,8 +113,8 @@ impl Config {
         Config::format(9, 8_000, ssrc)
     }
 
-    /// Opus, whose payload type the two ends agree on: 48,000 Hz at any bandwidth. A packet of 20 ms fits up to 128 kbit/s, of
-    /// 60 ms up to 42 kbit/s.
+    /// Opus, whose payload type the two ends agree on: 48,000 Hz at any bandwidth. 20 ms are 320 bytes at a constant 128 kbit/s;
+    /// a variable rate has peaks, and 112 kbit/s were seen to be too much.
     pub fn opus(payload_type: u8, ssrc: u32) -> Config {
         Config::format(payload_type, 48_000, ssrc)
     }

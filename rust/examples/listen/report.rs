@@ -211,7 +211,7 @@ impl Report {
             true => "",
             false => {
                 ". GStreamer's payloaders go up to mtu=1400: give max-ptime=20000000; ffmpeg's to pkt_size=1472: give ?pkt_size=172 for PCMU. \
-                 Above 128 kbit/s 20 ms do not fit either"
+                 At 112 kbit/s and more not even 20 ms always fit"
             }
         };
         Some(format!(
