@@ -116,7 +116,8 @@ impl Report {
             eprintln!("        {sign}");
         }
         self.remember(&figures, receiver.queue());
-        Some(figures)
+        let anything = receiver.has_sender() || figures.refused.iter().any(|count| *count > 0);
+        anything.then_some(figures)
     }
 
     fn figures(&mut self, now: Duration, receiver: &mut Receiver) -> Option<Figures> {
