@@ -85,15 +85,11 @@ struct Proved(Queue);
 
 impl Proved {
     fn new(settings: &Settings) -> Proved {
-        let config = Config {
-            delay: settings.delay(),
-            max_entries: settings.max_entries,
-            max_gaps: settings.max_gaps,
-            payload_type: PT,
-            ssrc: SSRC,
-            rtx: Some(Rtx { payload_type: RTX_PT, ssrc: RTX_SSRC }),
-            ..Config::default()
-        };
+        let mut config = Config::default();
+        config.delay = settings.delay();
+        (config.max_entries, config.max_gaps) = (settings.max_entries, settings.max_gaps);
+        (config.payload_type, config.ssrc) = (PT, SSRC);
+        config.rtx = Some(Rtx::new(RTX_PT, RTX_SSRC));
         Proved(Queue::open(&config).expect("settings in range"))
     }
 }

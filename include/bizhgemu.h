@@ -1,7 +1,7 @@
 /* The receive queue of one RTP stream: datagrams and instants in; packets, NACK lists and timeouts out.
  *
- * Link target/staticlib/libffi.a, which `rt staticlib ffi` makes; it needs memset and memmove alone. C99 or later, x86-64
- * Linux. docs/USING.md tells how to choose settings and drive the queue. No function allocates, blocks, reads a clock or
+ * Link libbizhgemu, which `make install` and a release have, or target/staticlib/libffi.a, which `rt staticlib ffi` makes and which is
+ * the same; it needs memset and memmove alone. C99 or later, x86-64 Linux. docs/USING.md tells how to choose settings and drive the queue. No function allocates, blocks, reads a clock or
  * keeps state of its own: a session is a struct that goes in by value and comes back by value, its storage is four arrays
  * that the caller owns.
  *
@@ -40,6 +40,12 @@
 extern "C" {
 #endif
 
+/* The version of this header. `bizhgemu_version()` has that of the archive; take both from one commit (docs/VERSIONS.md). */
+#define BIZHGEMU_VERSION_MAJOR 0
+#define BIZHGEMU_VERSION_MINOR 2
+#define BIZHGEMU_VERSION_PATCH 0
+#define BIZHGEMU_VERSION (UINT64_C(1000000) * BIZHGEMU_VERSION_MAJOR + 1000 * BIZHGEMU_VERSION_MINOR + BIZHGEMU_VERSION_PATCH)
+
 /* The latest instant: 2^52 - 1, a little over 52 days. */
 #define BIZHGEMU_LATEST ((UINT64_C(1) << 52) - 1)
 
@@ -52,26 +58,27 @@ extern "C" {
 #define BIZHGEMU_GAPS(G) (4 * (G))
 #define BIZHGEMU_REMEMBERED 2048
 
-/* Why a call was turned back. Checks run in the order of docs/USING.md, "Refusals in the field", not of these numbers; there
+/* Why a call was turned back; `bizhgemu_refusal_text` has it in words. More numbers may come (17 to 21 are planned), so let a
+ * switch have a default. Checks run in the order of docs/USING.md, "Refusals in the field", not of these numbers; there
  * it also says what to do about each. Below, "2 to 7" stands for 2 (under 12 bytes), 3, 2 (CSRCs and extension), 4, 5, 6, 7. */
 enum bizhgemu_refusal {
 	BIZHGEMU_ACCEPTED = 0,
-	BIZHGEMU_SETTINGS = 1,            /* a setting is out of its range */
-	BIZHGEMU_TRUNCATED = 2,           /* the datagram ends within its header */
-	BIZHGEMU_VERSION = 3,             /* the datagram is not RTP version 2 */
-	BIZHGEMU_PADDING = 4,             /* its count of padding bytes cannot be right */
-	BIZHGEMU_PAYLOAD_TOO_LARGE = 5,   /* payload over 320 bytes, of a repair over 322 */
-	BIZHGEMU_PAYLOAD_TYPE = 6,        /* payload type not the session's */
-	BIZHGEMU_SSRC = 7,                /* SSRC not the session's */
-	BIZHGEMU_CLOCK = 8,               /* instant before that of an accepted push or poll, or above BIZHGEMU_LATEST */
-	BIZHGEMU_NO_RTX = 9,              /* repair for a session without RTX */
-	BIZHGEMU_NO_MEDIA = 10,           /* repair before any media packet */
-	BIZHGEMU_NO_ORIGINAL_NUMBER = 11, /* repair with a payload under 2 bytes */
-	BIZHGEMU_GAPS_FULL = 12,          /* more gaps than max_gaps would be open */
-	BIZHGEMU_ENTRIES_FULL = 13,       /* repair with 2 * max_entries packets waiting */
-	BIZHGEMU_COUNT = 14,              /* a number, timestamp or counter would pass 2^52 - 1, or a NACK count 2^32 - 1 */
-	BIZHGEMU_OUTPUT = 15,             /* lent output under 320 bytes, or under max_gaps numbers */
-	BIZHGEMU_SESSION = 16             /* session or storage damaged, or not of these settings */
+	BIZHGEMU_REFUSED_SETTINGS = 1,            /* a setting is out of its range */
+	BIZHGEMU_REFUSED_TRUNCATED = 2,           /* the datagram ends within its header */
+	BIZHGEMU_REFUSED_VERSION = 3,             /* the datagram is not RTP version 2 */
+	BIZHGEMU_REFUSED_PADDING = 4,             /* its count of padding bytes cannot be right */
+	BIZHGEMU_REFUSED_PAYLOAD_TOO_LARGE = 5,   /* payload over 320 bytes, of a repair over 322 */
+	BIZHGEMU_REFUSED_PAYLOAD_TYPE = 6,        /* payload type not the session's */
+	BIZHGEMU_REFUSED_SSRC = 7,                /* SSRC not the session's */
+	BIZHGEMU_REFUSED_CLOCK = 8,               /* instant before that of an accepted push or poll, or above BIZHGEMU_LATEST */
+	BIZHGEMU_REFUSED_NO_RTX = 9,              /* repair for a session without RTX */
+	BIZHGEMU_REFUSED_NO_MEDIA = 10,           /* repair before any media packet */
+	BIZHGEMU_REFUSED_NO_ORIGINAL_NUMBER = 11, /* repair with a payload under 2 bytes */
+	BIZHGEMU_REFUSED_GAPS_FULL = 12,          /* more gaps than max_gaps would be open */
+	BIZHGEMU_REFUSED_ENTRIES_FULL = 13,       /* repair with 2 * max_entries packets waiting */
+	BIZHGEMU_REFUSED_COUNT = 14,              /* a number, timestamp or counter would pass 2^52 - 1, or a NACK count 2^32 - 1 */
+	BIZHGEMU_REFUSED_OUTPUT = 15,             /* lent output under 320 bytes, or under max_gaps numbers */
+	BIZHGEMU_REFUSED_SESSION = 16             /* session or storage damaged, or not of these settings */
 };
 
 /* `mode` of the settings. */
@@ -255,6 +262,9 @@ BIZHGEMU_SIZE(bizhgemu_lengths, 40);
 	uint64_t *entries, size_t entries_len, uint8_t *payloads, size_t payloads_len, \
 	uint64_t *gaps, size_t gaps_len, uint64_t *remembered, size_t remembered_len
 
+/* The version of the archive: 1,000,000 * major + 1,000 * minor + patch, as BIZHGEMU_VERSION. */
+uint64_t bizhgemu_version(void);
+
 /* How long the four arrays must be. Refused under 1 where max_entries or max_gaps is out of its range. */
 struct bizhgemu_lengths bizhgemu_lengths(size_t max_entries, size_t max_gaps);
 
@@ -294,6 +304,61 @@ struct bizhgemu_highest bizhgemu_highest_sequence_number_received(struct bizhgem
 /* The figures a box shows. Refused under 16 where the session is not sound; storage and `entries`, `gaps`, `remembered` are
  * not looked at. */
 struct bizhgemu_figures bizhgemu_figures(struct bizhgemu_session session);
+
+/* The settings that most voice wants, as the Rust crate's default: sorted, 100 ms, 8,000 Hz, no repairs. Set payload type and SSRC,
+ * which are the sender's, and what else differs; `max_entries` and `max_gaps` must be those of your arrays. */
+static inline struct bizhgemu_config bizhgemu_default_config(uint8_t pt, uint32_t ssrc)
+{
+	struct bizhgemu_config config;
+	config.delay = UINT64_C(100000000);
+	config.initial_nack_delay = UINT64_C(5000000);
+	config.default_nack_resend_delay = UINT64_C(20000000);
+	config.nack_window = UINT64_C(200000000);
+	config.max_entries = 100;
+	config.max_gaps = 999;
+	config.clock_rate = 8000;
+	config.max_nack_attempts = 3;
+	config.mode = BIZHGEMU_SORTED_QUEUE;
+	config.has_rtx = 0;
+	config.ssrc = ssrc;
+	config.rtx_ssrc = 0;
+	config.pt = pt;
+	config.rtx_pt = 0;
+	return config;
+}
+
+/* What a refusal means, by its number; docs/USING.md says what to do about each. */
+static inline const char *bizhgemu_refusal_text(uint64_t refusal)
+{
+	switch (refusal) {
+	case BIZHGEMU_ACCEPTED: return "accepted";
+	case BIZHGEMU_REFUSED_SETTINGS: return "a setting is out of its range";
+	case BIZHGEMU_REFUSED_TRUNCATED: return "the datagram ends within its RTP header";
+	case BIZHGEMU_REFUSED_VERSION: return "the datagram is not RTP version 2";
+	case BIZHGEMU_REFUSED_PADDING: return "the datagram's padding counts 0 bytes, or more than follow the header, or has no count";
+	case BIZHGEMU_REFUSED_PAYLOAD_TOO_LARGE: return "the payload is over 320 bytes (of a repair: over 322)";
+	case BIZHGEMU_REFUSED_PAYLOAD_TYPE: return "the payload type is not the session's";
+	case BIZHGEMU_REFUSED_SSRC: return "the sender (SSRC) is not the session's";
+	case BIZHGEMU_REFUSED_CLOCK: return "the instant is before that of an accepted push or poll, or past 2^52 - 1 nanoseconds (52 days)";
+	case BIZHGEMU_REFUSED_NO_RTX: return "a repair came for a session without RTX";
+	case BIZHGEMU_REFUSED_NO_MEDIA: return "a repair came before any media packet";
+	case BIZHGEMU_REFUSED_NO_ORIGINAL_NUMBER: return "a repair is too short to name the number it repairs";
+	case BIZHGEMU_REFUSED_GAPS_FULL: return "the packet would open more gaps than `max_gaps` allows";
+	case BIZHGEMU_REFUSED_ENTRIES_FULL: return "a repair came while twice `max_entries` packets wait";
+	case BIZHGEMU_REFUSED_COUNT: return "a number, timestamp or counter would pass 2^52 - 1, or a NACK count 2^32 - 1";
+	case BIZHGEMU_REFUSED_OUTPUT: return "the lent output is too short";
+	case BIZHGEMU_REFUSED_SESSION: return "session or storage is damaged, or not that of these settings";
+	default: return "not a refusal of this version";
+	}
+}
+
+/* Whether media and repairs of these settings differ in at least two bits of payload type and SSRC together, or there are no
+ * repairs. Where they do not, one bit turned over on the way can make a media packet a repair; nothing is refused for it. */
+static inline int bizhgemu_two_bits_apart(struct bizhgemu_config config)
+{
+	uint64_t bits = (uint64_t)((config.pt ^ config.rtx_pt) & 0x7f) << 32 | (config.ssrc ^ config.rtx_ssrc);
+	return !config.has_rtx || (bits & (bits - 1)) != 0;
+}
 
 /* A session with its storage. Fill in the four pointers and their lengths, those that BIZHGEMU_ENTRIES and so on give, then
  * open it. The memory need not be initialised. */

@@ -1,4 +1,8 @@
-"""What the tools share of docs/TRACE.md: datagrams, and the answers of each call."""
+"""What the tools share of docs/TRACE.md: datagrams, the answers of each call, and reading files."""
+
+import contextlib
+import struct
+import sys
 
 FIELDS = "mode clock_rate depth max_gaps delay initial resend max pt ssrc rtx rtx_pt rtx_ssrc".split()
 MAX_INSTANT = 2**52 - 1
@@ -18,6 +22,36 @@ ANSWERS = {call: words.split(",") for call, words in {
     "state": "no session,state",
     "(no call)": "unreadable",
 }.items()}
+
+
+# What a refusal means, in few words
+MEANINGS = {
+    1: "settings", 2: "datagram too short", 3: "version not 2", 4: "padding", 5: "payload too long", 6: "foreign payload type",
+    7: "foreign sender", 8: "clock going back or past its end", 9: "repair without RTX", 10: "repair before any packet",
+    11: "repair without a number", 12: "no place for the gaps", 13: "no place for the repair", 14: "count past its end",
+    15: "output too short", 16: "session or storage damaged",
+}
+
+
+def read_bytes(path):
+    """The bytes of a file; what cannot be read is said in a line."""
+    try:
+        return path.read_bytes()
+    except OSError as error:
+        sys.exit(f"{path}: {error.strerror}")
+
+
+def read(path):
+    return read_bytes(path).decode(errors="replace")
+
+
+@contextlib.contextmanager
+def expected(words):
+    """What is read inside may be anything; where it is not what it should be these words are said."""
+    try:
+        yield
+    except (ValueError, LookupError, TypeError, AttributeError, struct.error):
+        sys.exit(words)
 
 
 def datagram(pt, number, timestamp, ssrc, payload=b"", marker=0, csrcs=0, extension=None, padding=0):

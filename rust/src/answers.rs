@@ -1,7 +1,8 @@
-use std::time::Duration;
+use core::time::Duration;
 
 /// What became of a media packet.
 #[derive(Clone, Copy, Debug, PartialEq, Eq)]
+#[non_exhaustive]
 pub enum Media {
     /// It waits to be handed out. With [`Config::max_entries`](crate::Config::max_entries) already waiting, the front one was
     /// pushed out, which may be this very packet.
@@ -13,6 +14,7 @@ pub enum Media {
 
 /// What became of a repair.
 #[derive(Clone, Copy, Debug, PartialEq, Eq)]
+#[non_exhaustive]
 pub enum Repair {
     /// The missing packet now waits to be handed out.
     Recovered,
@@ -24,6 +26,7 @@ pub enum Repair {
 
 /// A packet that is handed out.
 #[derive(Clone, Copy, Debug, PartialEq, Eq)]
+#[non_exhaustive]
 pub struct Packet<'a> {
     /// When the media packet came; none for a repair.
     pub received_at: Option<Duration>,
@@ -45,6 +48,7 @@ pub struct Packet<'a> {
 
 /// The figures a box shows.
 #[derive(Clone, Copy, Debug, PartialEq)]
+#[non_exhaustive]
 pub struct Figures {
     /// Media packets queued.
     pub packets_received: u64,
@@ -63,6 +67,7 @@ pub struct Figures {
 
 /// The figures of repairs.
 #[derive(Clone, Copy, Debug, PartialEq, Eq)]
+#[non_exhaustive]
 pub struct RtxStats {
     /// Repairs that filled a gap.
     pub packets_received_in_time: u64,

@@ -65,6 +65,8 @@ fn used() -> Queue {
 /// All that is lent to a call: session and storage of `used`, and outputs just long enough, full of marks.
 #[derive(Clone, PartialEq)]
 struct Lent {
+    /// What extends the 16-bit numbers of `used`: the first packet's cycle.
+    cycle: u64,
     session: ffi::Session,
     storage: Storage,
     payload: Vec<u8>,
@@ -73,11 +75,17 @@ struct Lent {
 
 fn lent() -> Lent {
     let Queue { session, storage, .. } = used();
-    Lent { session, storage, payload: vec![0xaa; LONGEST_PAYLOAD], numbers: vec![0xaaaa; session.config.max_gaps] }
+    let (payload, numbers) = (vec![0xaa; LONGEST_PAYLOAD], vec![0xaaaa; session.config.max_gaps]);
+    Lent { cycle: session.last_number & !0xffff, session, storage, payload, numbers }
 }
 
 /// Calls, each answered by the number of its refusal, or by 0.
 impl Lent {
+    /// The extended number of one of `used`.
+    fn at(&self, number: u64) -> u64 {
+        self.cycle + number
+    }
+
     fn push(&mut self, now: u64, number: u64, timestamp: u64, payload: &[u8]) -> u64 {
         let c = &self.session.config;
         let datagram = header(c.pt, number as u16, timestamp as u32, c.ssrc, payload);
@@ -203,7 +211,8 @@ fn a_used_session_has_each_word_in_its_place() {
     assert!(f64::from_bits(jitter) > 0.0 && f32::from_bits(loss) > 0.0);
     let settings = [100 * MS, 5 * MS, 20 * MS, 200 * MS, 3, 999, 8000, 3, 1, 1];
     let senders = [SSRC.into(), RTX.ssrc.into(), 5, 97];
-    let received = [126 * MS, 1, 121 * MS, 800, 15, 1, 12];
+    let (number, timestamp) = (queue.session.last_number & !0xffff, queue.session.last_timestamp & !0xffff_ffff);
+    let received = [126 * MS, 1, 121 * MS, timestamp + 800, number + 15, 1, number + 12];
     let repairs = [1, 2 * MS, MS, 1, 2, 3, 7];
     let counters = [4, 3, 22, 1];
     let floats = [8000f64.to_bits(), jitter];
@@ -378,21 +387,21 @@ fn set_most_gaps(l: &mut Lent, most: u64) {
 
 /// Every place in use: G gaps, 2 · D entries above them, 1,024 remembered.
 fn fill(l: &mut Lent) {
-    l.session.last_number = 3000;
+    l.session.last_number = l.at(3000);
     (l.session.entries, l.session.gaps, l.session.remembered) = (6, 999, 1024);
-    for (gap, number) in l.storage.gaps.chunks_exact_mut(4).zip(1000..) {
+    for (gap, number) in l.storage.gaps.chunks_exact_mut(4).zip(l.cycle + 1000..) {
         gap.copy_from_slice(&[number, 0, 0, 0]);
     }
-    for (entry, number) in l.storage.entries.chunks_exact_mut(4).zip(2000..) {
+    for (entry, number) in l.storage.entries.chunks_exact_mut(4).zip(l.cycle + 2000..) {
         entry.copy_from_slice(&[number, 0, 0, 0]);
     }
 }
 
 /// Two gaps, below the highest.
 fn set_gaps(l: &mut Lent, first: u64, second: u64) {
-    (l.session.gaps, l.session.last_number) = (2, 20);
+    (l.session.gaps, l.session.last_number) = (2, l.at(20));
     l.storage.gaps.copy_within(0..4, 4);
-    (l.storage.gaps[0], l.storage.gaps[4]) = (first, second);
+    (l.storage.gaps[0], l.storage.gaps[4]) = (l.at(first), l.at(second));
 }
 
 #[test]
@@ -419,7 +428,7 @@ fn damaged_words_are_refused() {
         ("a setting: payload type", |l, past| l.session.config.pt = 127 + past as u8),
         ("a setting: payload type of repairs", |l, past| l.session.config.rtx_pt = 127 + past as u8),
         // in passthrough: there entries and gaps may stand at or below the last returned
-        ("a last returned above the highest", |l, past| { l.session.config.mode = 0; l.session.returned = 15 + past }),
+        ("a last returned above the highest", |l, past| { l.session.config.mode = 0; l.session.returned = l.at(15 + past) }),
         ("a last returned before media", |l, past| { (l.session.entries, l.session.gaps, l.session.has_last) = (0, 0, 1 - past) }),
         ("an instant: the last packet's", |l, past| l.session.last_instant = l.session.clock + past),
         ("an extended value: the highest", |l, past| l.session.last_number = END + past),
@@ -454,21 +463,21 @@ fn damaged_counts_and_storage_are_refused() {
         ("more than G gaps", |l, past| { fill(l); l.session.gaps += past as usize }),
         ("more than 1,024 remembered", |l, past| { fill(l); l.session.remembered += past as usize }),
         ("more entries than memory has", |l, past| { fill(l); l.session.entries = [6, usize::MAX][past as usize] }),
-        ("an entry twice", |l, past| l.storage.entries[4] = 15 - 2 * past),
-        ("entries exchanged", |l, past| (l.storage.entries[0], l.storage.entries[4]) = (13 + 2 * past, 15 - 2 * past)),
+        ("an entry twice", |l, past| l.storage.entries[4] = l.at(15 - 2 * past)),
+        ("entries exchanged", |l, past| (l.storage.entries[0], l.storage.entries[4]) = (l.at(13 + 2 * past), l.at(15 - 2 * past))),
         ("a gap twice", |l, past| set_gaps(l, 14, 17 - 3 * past)),
         ("gaps exchanged", |l, past| set_gaps(l, 14 + 3 * past, 17 - 3 * past)),
-        ("an entry's number in both", |l, past| l.storage.entries[0] = 13 + past),
-        ("a gap's number in both", |l, past| l.storage.gaps[0] = 14 - past),
-        ("an entry above the highest", |l, past| l.storage.entries[4] = 15 + past),
-        ("a gap above the highest", |l, past| l.storage.gaps[0] = 14 + 2 * past),
+        ("an entry's number in both", |l, past| l.storage.entries[0] = l.at(13 + past)),
+        ("a gap's number in both", |l, past| l.storage.gaps[0] = l.at(14 - past)),
+        ("an entry above the highest", |l, past| l.storage.entries[4] = l.at(15 + past)),
+        ("a gap above the highest", |l, past| l.storage.gaps[0] = l.at(14 + 2 * past)),
         // mode 0 is passthrough, 1 is sorted
-        ("an entry at the last returned", |l, past| { l.session.config.mode = past as u32; l.storage.entries[0] = 12 }),
-        ("an entry below the last returned", |l, past| { l.session.config.mode = past as u32; l.storage.entries[0] = 11 }),
-        ("a gap at the last returned", |l, past| { l.session.config.mode = past as u32; l.storage.gaps[0] = 12 }),
-        ("a gap below the last returned", |l, past| { l.session.config.mode = past as u32; l.storage.gaps[0] = 11 }),
+        ("an entry at the last returned", |l, past| { l.session.config.mode = past as u32; l.storage.entries[0] = l.at(12) }),
+        ("an entry below the last returned", |l, past| { l.session.config.mode = past as u32; l.storage.entries[0] = l.at(11) }),
+        ("a gap at the last returned", |l, past| { l.session.config.mode = past as u32; l.storage.gaps[0] = l.at(12) }),
+        ("a gap below the last returned", |l, past| { l.session.config.mode = past as u32; l.storage.gaps[0] = l.at(11) }),
         // 13 alone waits
-        ("a gap at the highest", |l, past| { l.session.entries = 1; l.storage.gaps[0] = 14 + past }),
+        ("a gap at the highest", |l, past| { l.session.entries = 1; l.storage.gaps[0] = l.at(14 + past) }),
         ("an entry before media", |l, past| { (l.session.gaps, l.session.has_returned, l.session.has_last) = (0, 0, 1 - past) }),
         ("a gap before media", |l, past| { (l.session.entries, l.session.has_returned, l.session.has_last) = (0, 0, 1 - past) }),
         // the word is twice the length, and 1 for the marker

@@ -1,9 +1,11 @@
 use crate::ffi;
+use crate::queue::told;
 use crate::time::nanoseconds;
-use std::time::Duration;
+use core::time::Duration;
 
 /// How packets are handed out.
 #[derive(Clone, Copy, Debug, PartialEq, Eq)]
+#[non_exhaustive]
 pub enum Mode {
     /// At once, in the order of their numbers among those that wait; late packets come out of order. Call
     /// [`poll_nack`](crate::Queue::poll_nack) even if you send no NACKs.
@@ -14,6 +16,7 @@ pub enum Mode {
 
 /// Where repairs come from (RFC 4588).
 #[derive(Clone, Copy, Debug, PartialEq, Eq)]
+#[non_exhaustive]
 pub struct Rtx {
     /// Payload type of repairs, 0 to 127.
     pub payload_type: u8,
@@ -21,16 +24,30 @@ pub struct Rtx {
     pub ssrc: u32,
 }
 
+impl Rtx {
+    /// Repairs of this payload type from this SSRC.
+    pub fn new(payload_type: u8, ssrc: u32) -> Rtx {
+        Rtx { payload_type, ssrc }
+    }
+}
+
 /// The settings of a queue. A value out of its range is refused under 1 by [`Queue::open`](crate::Queue::open).
 ///
-/// The default is for 20 ms voice at a clock rate of 8,000 Hz; `payload_type` and `ssrc` are the sender's and always to be set:
+/// Begin with the preset of the payload format, then set what differs. Payload type and SSRC are the sender's:
 ///
 /// ```
-/// let config = bizhgemu::Config { payload_type: 0, ssrc: 0x1234_5678, ..bizhgemu::Config::default() };
+/// use bizhgemu::{Config, Rtx};
+/// use std::time::Duration;
+///
+/// let mut config = Config::opus(111, 0x1234_5678);
+/// config.delay = Duration::from_millis(150);
+/// config.rtx = Some(Rtx::new(112, 0x8765_4321));
+/// assert!(bizhgemu::Queue::open(&config).is_ok());
 /// ```
 ///
-/// Durations are taken to the nanosecond.
+/// The default is that of 20 ms voice at a clock rate of 8,000 Hz. Durations are taken to the nanosecond.
 #[derive(Clone, Copy, Debug, PartialEq, Eq)]
+#[non_exhaustive]
 pub struct Config {
     /// How packets are handed out. Default: [`Mode::SortedQueue`].
     pub mode: Mode,
@@ -79,6 +96,72 @@ impl Default for Config {
     }
 }
 
+/// Presets: payload type and clock rate of a format (RFC 3551, RFC 7587), everything else as in the default.
+impl Config {
+    /// PCMU (G.711 µ-law): payload type 0. 20 ms are 160 bytes; 40 ms just fit.
+    pub fn pcmu(ssrc: u32) -> Config {
+        Config::format(0, 8_000, ssrc)
+    }
+
+    /// PCMA (G.711 A-law): payload type 8. 20 ms are 160 bytes; 40 ms just fit.
+    pub fn pcma(ssrc: u32) -> Config {
+        Config::format(8, 8_000, ssrc)
+    }
+
+    /// G.722: payload type 9. Its RTP clock is 8,000 Hz though it samples at 16,000. 20 ms are 160 bytes; 40 ms just fit.
+    pub fn g722(ssrc: u32) -> Config {
+        Config::format(9, 8_000, ssrc)
+    }
+
+    /// Opus, whose payload type the two ends agree on: 48,000 Hz at any bandwidth. 20 ms are 320 bytes at a constant 128 kbit/s;
+    /// a variable rate has peaks, and 112 kbit/s were seen to be too much.
+    pub fn opus(payload_type: u8, ssrc: u32) -> Config {
+        Config::format(payload_type, 48_000, ssrc)
+    }
+
+    fn format(payload_type: u8, clock_rate: u32, ssrc: u32) -> Config {
+        Config { payload_type, clock_rate, ssrc, ..Config::default() }
+    }
+}
+
+/// How far senders are apart. One bit turned over on the way is refused for certain only where any two senders, that is payload
+/// types and SSRCs of media and repairs, differ in at least two bits. No settings are refused for it.
+impl Config {
+    /// Whether media and repairs of these settings differ in at least two bits of payload type and SSRC together. Where they do not,
+    /// a media packet with one bit turned over can be taken for a repair, if it is pushed as one. Without repairs: true.
+    ///
+    /// ```
+    /// use bizhgemu::{Config, Rtx};
+    /// let mut config = Config::opus(96, 7);
+    /// config.rtx = Some(Rtx::new(97, 7));
+    /// assert!(!config.two_bits_apart()); // 96 and 97 differ in one bit
+    /// config.rtx = Some(Rtx::new(99, 7));
+    /// assert!(config.two_bits_apart());
+    /// ```
+    pub fn two_bits_apart(&self) -> bool {
+        self.rtx.is_none_or(|rtx| bits_between(self.media(), rtx) >= 2)
+    }
+
+    /// In how many bits the senders of two sessions differ: the least over media and repairs of the one and of the other.
+    pub fn bits_apart(&self, other: &Config) -> u32 {
+        let pairs = self.senders().flat_map(|ours| other.senders().map(move |theirs| bits_between(ours, theirs)));
+        pairs.min().expect("each has media")
+    }
+
+    fn media(&self) -> Rtx {
+        Rtx { payload_type: self.payload_type, ssrc: self.ssrc }
+    }
+
+    fn senders(&self) -> impl Iterator<Item = Rtx> + use<> {
+        core::iter::once(self.media()).chain(self.rtx)
+    }
+}
+
+/// Of the 7 bits of a payload type and the 32 of an SSRC, those that differ.
+fn bits_between(one: Rtx, other: Rtx) -> u32 {
+    ((one.payload_type ^ other.payload_type) & 0x7f).count_ones() + (one.ssrc ^ other.ssrc).count_ones()
+}
+
 impl Config {
     pub(crate) fn words(&self) -> ffi::Config {
         let rtx = self.rtx.unwrap_or(Rtx { payload_type: 0, ssrc: 0 });
@@ -100,6 +183,25 @@ impl Config {
             rtx_ssrc: rtx.ssrc,
             pt: self.payload_type,
             rtx_pt: rtx.payload_type,
+        }
+    }
+
+    /// The settings that a session holds.
+    pub(crate) fn of_words(words: &ffi::Config) -> Config {
+        let nanos = Duration::from_nanos;
+        Config {
+            mode: if words.mode == 0 { Mode::Passthrough } else { Mode::SortedQueue },
+            clock_rate: words.clock_rate,
+            delay: nanos(words.delay),
+            max_entries: words.max_entries,
+            max_gaps: words.max_gaps,
+            initial_nack_delay: nanos(words.initial_nack_delay),
+            default_nack_resend_delay: nanos(words.default_nack_resend_delay),
+            max_nack_attempts: words.max_nack_attempts,
+            nack_window: nanos(words.nack_window),
+            payload_type: words.pt,
+            ssrc: words.ssrc,
+            rtx: told(words.has_rtx.into(), Rtx { payload_type: words.rtx_pt, ssrc: words.rtx_ssrc }),
         }
     }
 }

@@ -3,7 +3,7 @@
 //! rust/tests/declarations.rs compares them with the Rattle sources' and the header's, field by field; the assertions below fix their layout, and
 //! tests send distinct values through.
 
-use std::mem::{offset_of, size_of};
+use core::mem::{offset_of, size_of};
 
 #[repr(C)]
 #[derive(Clone, Copy, Debug, PartialEq)]
@@ -217,7 +217,8 @@ unsafe extern "C" {
         remembered: *mut u64,
         remembered_len: usize,
     ) -> Opened;
-    // Safe: these two take numbers alone, and refuse what they cannot use.
+    // Safe: these three take numbers alone, or nothing, and refuse what they cannot use.
     pub safe fn bizhgemu_figures(session: Session) -> Figures;
     pub safe fn bizhgemu_lengths(max_entries: usize, max_gaps: usize) -> Lengths;
+    pub safe fn bizhgemu_version() -> u64;
 }

@@ -1,10 +1,11 @@
 //! What a queue holds, for diagnosis: read from the session and the storage, whose layout docs/DESIGN.md has.
 
 use crate::queue::{LONGEST_PAYLOAD, Queue, told};
-use std::time::Duration;
+use core::time::Duration;
 
 /// The media packet with the highest number.
 #[derive(Clone, Copy, Debug, PartialEq, Eq)]
+#[non_exhaustive]
 pub struct LastReceived {
     /// When it came.
     pub instant: Duration,
@@ -16,6 +17,7 @@ pub struct LastReceived {
 
 /// The round trip from a NACK to its repair, after RFC 6298.
 #[derive(Clone, Copy, Debug, PartialEq, Eq)]
+#[non_exhaustive]
 pub struct RoundTrip {
     /// Smoothed.
     pub srtt: Duration,
@@ -25,6 +27,7 @@ pub struct RoundTrip {
 
 /// A packet that waits.
 #[derive(Clone, Copy, Debug, PartialEq, Eq)]
+#[non_exhaustive]
 pub struct Waiting<'a> {
     /// Extended number.
     pub number: u64,
@@ -40,6 +43,7 @@ pub struct Waiting<'a> {
 
 /// A missing number.
 #[derive(Clone, Copy, Debug, PartialEq, Eq)]
+#[non_exhaustive]
 pub struct Gap {
     /// Extended number.
     pub number: u64,
@@ -53,6 +57,7 @@ pub struct Gap {
 
 /// A lost number that was NACKed just once: a late repair of it still measures the round trip.
 #[derive(Clone, Copy, Debug, PartialEq, Eq)]
+#[non_exhaustive]
 pub struct Remembered {
     /// Extended number.
     pub number: u64,

@@ -3,7 +3,7 @@
 //!
 //! The queue itself is written in Rattle and proved: for every input its answer, its state and every byte of its storage are
 //! what the definitions in this repository say, and a call it refuses changes nothing. This crate is the thin safe layer
-//! over its exported functions: it owns the memory, turns codes into enums and nanoseconds into [`Duration`](std::time::Duration).
+//! over its exported functions: it owns the memory, turns codes into enums and nanoseconds into [`Duration`](core::time::Duration).
 //! It links `target/staticlib/libffi.a`, which `rt staticlib ffi` makes.
 //!
 //! # Use
@@ -15,7 +15,7 @@
 //! use bizhgemu::{Config, Media, Queue};
 //! use std::time::Duration;
 //!
-//! let mut queue = Queue::open(&Config { payload_type: 0, ssrc: 1, ..Config::default() })?;
+//! let mut queue = Queue::open(&Config::pcmu(1))?;
 //!
 //! // Numbers 10 and 12 come, 20 ms of speech each; 11 does not.
 //! let datagram = |number: u8, timestamp: u16| {
@@ -37,27 +37,43 @@
 //! ```
 //!
 //! Whatever is wrong with a call comes back as a [`Refusal`], which says what it means and what to do about it; nothing panics, whatever
-//! the network sends. `docs/USING.md` in the repository tells how to choose the settings and what real senders do; the example
-//! `listen` is a host that shows the signs of trouble; it opens no new session after 8, 14 or 16, which a box must.
+//! the network sends. [`Receiver`] does what a host must do about some of them, a new session among it, and is what most boxes want.
+//! [`Header`] tells which stream a datagram belongs to. `docs/USING.md` in the repository tells how to choose the settings and what
+//! real senders do; the example `listen` is a host that shows the signs of trouble.
+//!
+//! The crate needs `alloc`; feature `std`, on by default, adds [`Clock`] and nothing else.
 //!
 //! Floats are taken to be rounded to nearest with subnormal numbers kept, as programs usually start.
 
+#![cfg_attr(not(test), no_std)]
 #![deny(missing_docs, unsafe_op_in_unsafe_fn)]
+
+extern crate alloc;
+#[cfg(all(feature = "std", not(test)))]
+extern crate std;
 
 mod answers;
 mod config;
 mod ffi;
+mod header;
 mod inspect;
 mod queue;
+mod receiver;
 mod refusal;
 mod time;
+mod version;
 
 #[cfg(test)]
 mod boundary_tests;
 
 pub use answers::{Figures, Media, Packet, Repair, RtxStats};
 pub use config::{Config, Mode, Rtx};
+pub use header::Header;
 pub use inspect::{Gap, LastReceived, Remembered, RoundTrip, Waiting};
 pub use queue::Queue;
+pub use receiver::{Event, Heard, Receiver, Rules, Sender, Taken, Tally, Why};
 pub use refusal::Refusal;
-pub use time::{Clock, LATEST};
+#[cfg(feature = "std")]
+pub use time::Clock;
+pub use time::LATEST;
+pub use version::{VERSION, library_version};

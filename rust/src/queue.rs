@@ -3,8 +3,11 @@ use crate::config::Config;
 use crate::ffi;
 use crate::refusal::Refusal;
 use crate::time::nanoseconds;
-use std::fmt;
-use std::time::Duration;
+use crate::version;
+use alloc::boxed::Box;
+use alloc::vec;
+use core::fmt;
+use core::time::Duration;
 
 /// The longest payload: what `poll` is lent to write into.
 pub(crate) const LONGEST_PAYLOAD: usize = 320;
@@ -21,6 +24,7 @@ pub(crate) struct Storage {
 
 impl Storage {
     fn new(config: &Config) -> Result<Storage, Refusal> {
+        version::check();
         let lengths = ffi::bizhgemu_lengths(config.max_entries, config.max_gaps);
         Refusal::check(lengths.refusal)?;
         Ok(Storage {
@@ -81,11 +85,12 @@ pub(crate) use lend;
 /// `push_rtx`, `poll` and `poll_nack` advance the queue's clock where they are accepted; an instant before it is refused under
 /// 8, and so is one above [`LATEST`](crate::LATEST). The timeouts don't advance it.
 ///
-/// The numbers under "Errors" stand in the order in which they are checked; "2 to 7" stands for 2 (under 12 bytes), 3, 2 (CSRCs
-/// and extension), 4, 5, 6, 7. Every call that may refuse looks through session and storage first, [`figures`](Queue::figures)
-/// through the session alone, and refuses under 16 what is damaged; since a queue owns both, that means that memory was
-/// overwritten, or that floats were not rounded to nearest. The calls that only read take `&mut self` because every accepted
-/// call leaves zeros in unused storage; `figures` and the readings that cannot refuse take `&self`.
+/// The refusals under "Errors" stand in the order in which they are checked; [`Refusal::Truncated`] is checked a second time, for
+/// CSRCs and extension, after [`Refusal::Version`]. Every call that may refuse looks through session and storage first,
+/// [`figures`](Queue::figures) through the session alone, and refuses what is damaged under 16, [`Refusal::Session`]; since a queue
+/// owns both, that means that memory was overwritten, or that floats were not rounded to nearest. The calls that only read take
+/// `&mut self` because every accepted call leaves zeros in unused storage; `figures` and the readings that cannot refuse take
+/// `&self`.
 #[derive(Clone)]
 pub struct Queue {
     pub(crate) session: ffi::Session,
@@ -99,7 +104,11 @@ impl Queue {
     ///
     /// # Errors
     ///
-    /// [`Refusal::Settings`] where a setting is out of its range.
+    /// [`Refusal::Settings`] (1) where a setting is out of its range.
+    ///
+    /// # Panics
+    ///
+    /// Where the linked archive is of another version than this crate.
     pub fn open(config: &Config) -> Result<Queue, Refusal> {
         let mut storage = Storage::new(config)?;
         let opened = storage.open(config.words());
@@ -112,11 +121,38 @@ impl Queue {
         })
     }
 
+    /// Opens a new session in place of this one, with a clock that starts anew: nothing of the old one is left. The storage is used
+    /// again where D and G are the same, so that nothing is allocated. Where the settings are refused the queue stays as it was.
+    ///
+    /// # Errors
+    ///
+    /// [`Refusal::Settings`] (1) where a setting is out of its range.
+    pub fn reopen(&mut self, config: &Config) -> Result<(), Refusal> {
+        let lengths = ffi::bizhgemu_lengths(config.max_entries, config.max_gaps);
+        Refusal::check(lengths.refusal)?;
+        // the lengths that it has, not those of its settings: they may be damaged
+        if (lengths.entries, lengths.gaps) != (self.storage.entries.len(), self.storage.gaps.len()) {
+            *self = Queue::open(config)?;
+            return Ok(());
+        }
+        let opened = self.storage.open(config.words());
+        Refusal::check(opened.refusal)?;
+        self.session = opened.session;
+        Ok(())
+    }
+
+    /// The settings that it was opened with.
+    pub fn config(&self) -> Config {
+        Config::of_words(&self.session.config)
+    }
+
     /// Takes a media datagram, header and all.
     ///
     /// # Errors
     ///
-    /// Refused under 8; 2 to 7; 14; 12.
+    /// [`Refusal::Clock`] (8), [`Refusal::Truncated`] (2), [`Refusal::Version`] (3), [`Refusal::Padding`] (4), [`Refusal::PayloadTooLarge`] (5),
+    /// [`Refusal::PayloadType`] (6), [`Refusal::Ssrc`] (7),
+    /// [`Refusal::Count`] (14), [`Refusal::GapsFull`] (12).
     pub fn push(&mut self, now: Duration, datagram: &[u8]) -> Result<Media, Refusal> {
         let pushed =
             lend!(bizhgemu_push, self.session, self.storage, nanoseconds(now), datagram.as_ptr(), datagram.len());
@@ -129,7 +165,9 @@ impl Queue {
     ///
     /// # Errors
     ///
-    /// Refused under 8; 9; 2 to 7; 10; 11; 14; 13.
+    /// [`Refusal::Clock`] (8), [`Refusal::NoRtx`] (9), [`Refusal::Truncated`] (2), [`Refusal::Version`] (3), [`Refusal::Padding`] (4), [`Refusal::PayloadTooLarge`] (5),
+    /// [`Refusal::PayloadType`] (6), [`Refusal::Ssrc`] (7),
+    /// [`Refusal::NoMedia`] (10), [`Refusal::NoOriginalNumber`] (11), [`Refusal::Count`] (14), [`Refusal::EntriesFull`] (13).
     pub fn push_rtx(&mut self, now: Duration, datagram: &[u8]) -> Result<Repair, Refusal> {
         let pushed =
             lend!(bizhgemu_push_rtx, self.session, self.storage, nanoseconds(now), datagram.as_ptr(), datagram.len());
@@ -146,7 +184,7 @@ impl Queue {
     ///
     /// # Errors
     ///
-    /// Refused under 8; 14.
+    /// [`Refusal::Clock`] (8), [`Refusal::Count`] (14).
     pub fn poll(&mut self, now: Duration) -> Result<Option<Packet<'_>>, Refusal> {
         let polled = lend!(
             bizhgemu_poll,
@@ -179,7 +217,7 @@ impl Queue {
     ///
     /// # Errors
     ///
-    /// Refused under 8; 14.
+    /// [`Refusal::Clock`] (8), [`Refusal::Count`] (14).
     pub fn poll_nack(&mut self, now: Duration) -> Result<&[u16], Refusal> {
         let polled = lend!(
             bizhgemu_poll_nack,
@@ -198,7 +236,7 @@ impl Queue {
     ///
     /// # Errors
     ///
-    /// Refused under 8.
+    /// [`Refusal::Clock`] (8).
     pub fn timeout_receive(&mut self, now: Duration) -> Result<Option<Duration>, Refusal> {
         let answer = lend!(bizhgemu_timeout_receive, self.session, self.storage, nanoseconds(now));
         timeout(answer)
@@ -209,7 +247,7 @@ impl Queue {
     ///
     /// # Errors
     ///
-    /// Refused under 8.
+    /// [`Refusal::Clock`] (8).
     pub fn timeout_nack(&mut self, now: Duration) -> Result<Option<Duration>, Refusal> {
         let answer = lend!(bizhgemu_timeout_nack, self.session, self.storage, nanoseconds(now));
         timeout(answer)
@@ -219,7 +257,7 @@ impl Queue {
     ///
     /// # Errors
     ///
-    /// Refused under 8.
+    /// [`Refusal::Clock`] (8).
     pub fn timeout(&mut self, now: Duration) -> Result<Option<Duration>, Refusal> {
         let receive = self.timeout_receive(now)?;
         let nack = self.timeout_nack(now)?;
@@ -230,7 +268,7 @@ impl Queue {
     ///
     /// # Errors
     ///
-    /// Refused under 16 alone.
+    /// [`Refusal::Session`] (16) alone.
     pub fn rtx_stats(&mut self) -> Result<Option<RtxStats>, Refusal> {
         let stats = lend!(bizhgemu_rtx_stats, self.session, self.storage);
         Refusal::check(stats.refusal)?;
@@ -250,7 +288,7 @@ impl Queue {
     ///
     /// # Errors
     ///
-    /// Refused under 16 alone.
+    /// [`Refusal::Session`] (16) alone.
     pub fn highest_sequence_number_received(&mut self) -> Result<Option<u64>, Refusal> {
         let highest = lend!(bizhgemu_highest_sequence_number_received, self.session, self.storage);
         Refusal::check(highest.refusal)?;
@@ -261,7 +299,7 @@ impl Queue {
     ///
     /// # Errors
     ///
-    /// Refused under 16 alone.
+    /// [`Refusal::Session`] (16) alone.
     pub fn figures(&self) -> Result<Figures, Refusal> {
         let figures = ffi::bizhgemu_figures(self.session);
         Refusal::check(figures.refusal)?;
@@ -288,6 +326,6 @@ fn timeout(answer: ffi::Timeout) -> Result<Option<Duration>, Refusal> {
 }
 
 /// A value beside its flag.
-pub(crate) fn told(flag: u64, value: u64) -> Option<u64> {
+pub(crate) fn told<T>(flag: u64, value: T) -> Option<T> {
     (flag != 0).then_some(value)
 }

@@ -1,10 +1,11 @@
-use std::fmt;
+use core::fmt;
 
 /// Why a call was turned back. A refused call changes nothing: not the queue, not its clock, not a byte of storage.
 ///
 /// The order of the variants is that of [`number`](Refusal::number), not that in which a call is checked.
 #[derive(Clone, Copy, Debug, PartialEq, Eq, Hash, PartialOrd, Ord)]
 #[repr(u8)]
+#[non_exhaustive]
 pub enum Refusal {
     /// 1: a setting is out of its range; see [`Config`](crate::Config).
     Settings = 1,
@@ -66,7 +67,7 @@ const TABLE: [(Refusal, &str, &str); 16] = [
     (
         Refusal::PayloadTooLarge,
         "the payload is over 320 bytes (of a repair: over 322)",
-        "set the sender to 20 ms packets; numbers of such packets go missing, and may count as lost",
+        "set the sender to shorter packets or a lower bit rate; numbers of such packets go missing, and may count as lost",
     ),
     (
         Refusal::PayloadType,
@@ -123,17 +124,20 @@ const TABLE: [(Refusal, &str, &str); 16] = [
 ];
 
 impl Refusal {
-    /// All sixteen, by number.
+    /// The highest number.
+    pub(crate) const HIGHEST: usize = TABLE.len();
+
+    /// All of them, by number.
     pub fn all() -> impl ExactSizeIterator<Item = Refusal> {
         TABLE.iter().map(|(refusal, ..)| *refusal)
     }
 
-    /// The number of the refusal, 1 to 16.
+    /// The number of the refusal: 1 to 16 today.
     pub fn number(self) -> u8 {
         self as u8
     }
 
-    /// The refusal of a number; none for 0, which is no refusal, and for numbers above 16.
+    /// The refusal of a number; none for 0, which is no refusal, and for a number that is none.
     pub fn from_number(number: u64) -> Option<Refusal> {
         let place = usize::try_from(number.checked_sub(1)?).ok()?;
         TABLE.get(place).map(|(refusal, ..)| *refusal)
@@ -171,7 +175,7 @@ impl fmt::Display for Refusal {
     }
 }
 
-impl std::error::Error for Refusal {}
+impl core::error::Error for Refusal {}
 
 #[cfg(test)]
 mod tests {

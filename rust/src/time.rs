@@ -1,4 +1,6 @@
-use std::time::{Duration, Instant};
+use core::time::Duration;
+#[cfg(feature = "std")]
+use std::time::Instant;
 
 /// The latest instant that a queue accepts: 2^52 - 1 nanoseconds, a little over 52 days after the clock's start.
 pub const LATEST: Duration = Duration::from_nanos((1 << 52) - 1);
@@ -6,9 +8,11 @@ pub const LATEST: Duration = Duration::from_nanos((1 << 52) - 1);
 /// A clock: instants as durations since its start, which is what every call of a [`Queue`](crate::Queue) takes.
 ///
 /// One clock may serve any number of queues. It never goes back, as [`Instant`] does not.
+#[cfg(feature = "std")]
 #[derive(Clone, Copy, Debug)]
 pub struct Clock(Instant);
 
+#[cfg(feature = "std")]
 impl Clock {
     /// A clock that starts now.
     pub fn start() -> Clock {

@@ -100,8 +100,34 @@ fn the_refusals_have_the_same_names_and_numbers() {
     assert_eq!(library, ours);
     let (_, header) = include_str!("../../include/bizhgemu.h").split_once("enum bizhgemu_refusal {").unwrap();
     let (header, _) = header.split_once("};").unwrap();
-    let header: Vec<_> = header.lines().filter_map(|line| numbered(line, "BIZHGEMU_", " = ")).collect();
-    let (accepted, header) = header.split_first().unwrap();
-    assert_eq!(accepted, &("Accepted".to_string(), 0));
+    assert!(header.contains("BIZHGEMU_ACCEPTED = 0,"));
+    let header: Vec<_> = header.lines().filter_map(|line| numbered(line, "BIZHGEMU_REFUSED_", " = ")).collect();
     assert_eq!(header, ours);
+}
+
+#[test]
+fn the_header_says_what_a_refusal_means_in_the_same_words() {
+    let said: Vec<_> = include_str!("../../include/bizhgemu.h")
+        .lines()
+        .filter_map(|line| {
+            line.trim().strip_prefix("case BIZHGEMU_REFUSED_")?.strip_suffix("\";")?.split_once(": return \"")
+        })
+        .map(|(name, text)| (camel_case(&name.to_lowercase()), text))
+        .collect();
+    let ours: Vec<_> = Refusal::all().map(|refusal| (format!("{refusal:?}"), refusal.meaning())).collect();
+    assert_eq!(said, ours);
+}
+
+#[test]
+fn crate_archive_and_header_are_of_one_version() {
+    assert_eq!(bizhgemu::library_version(), bizhgemu::VERSION);
+    let parts = ["MAJOR", "MINOR", "PATCH"].map(|part| {
+        let before = format!("#define BIZHGEMU_VERSION_{part} ");
+        let mut lines = include_str!("../../include/bizhgemu.h").lines();
+        lines.find_map(|line| line.strip_prefix(&before)?.parse::<u64>().ok()).expect("the header's version")
+    });
+    assert_eq!(format!("{}.{}.{}", parts[0], parts[1], parts[2]), env!("CARGO_PKG_VERSION"));
+    assert_eq!(bizhgemu::VERSION, 1_000_000 * parts[0] + 1_000 * parts[1] + parts[2]);
+    let text = fs::read_to_string(top().join("CHANGELOG.md")).expect("CHANGELOG.md");
+    assert!(text.contains(&format!("\n## {}", env!("CARGO_PKG_VERSION"))), "CHANGELOG.md has no entry of this version");
 }

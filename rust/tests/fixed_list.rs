@@ -34,6 +34,11 @@ fn story() {
 }
 
 #[test]
+fn voice_and_positions() {
+    compare("examples/voice-and-positions.trace", "examples/voice-and-positions.answers");
+}
+
+#[test]
 fn rows_of_the_scope_document() {
     compare("examples/rows.trace", "examples/rows.answers");
 }

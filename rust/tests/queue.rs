@@ -1,6 +1,6 @@
 //! The public interface.
 
-use bizhgemu::{Clock, Config, Media, Mode, Queue, Refusal, Repair, Rtx};
+use bizhgemu::{Clock, Config, Header, Media, Mode, Queue, Refusal, Repair, Rtx};
 use std::time::{Duration, Instant};
 
 fn datagram(pt: u8, number: u16, timestamp: u32, ssrc: u32, payload: &[u8]) -> Vec<u8> {
@@ -24,7 +24,8 @@ const _: fn() = || {
 
 #[test]
 fn a_packet_has_the_values_it_was_sent_with() -> Result<(), Refusal> {
-    let config = Config { payload_type: 11, ssrc: 0xa1b2_c3d4, ..Config::default() };
+    let mut config = Config::pcmu(0xa1b2_c3d4);
+    config.payload_type = 11;
     let mut queue = Queue::open(&config)?;
     let mut bytes = datagram(11, 0x1122, 0x3344_5566, 0xa1b2_c3d4, &[7, 8, 9]);
     bytes[1] |= 0x80;
@@ -42,7 +43,9 @@ fn a_packet_has_the_values_it_was_sent_with() -> Result<(), Refusal> {
 fn two_queues_side_by_side_do_not_touch_each_other() -> Result<(), Refusal> {
     let mut queues = Vec::new();
     for ssrc in [1, 2] {
-        queues.push(Queue::open(&Config { ssrc, mode: Mode::Passthrough, ..Config::default() })?);
+        let mut config = Config::pcmu(ssrc);
+        config.mode = Mode::Passthrough;
+        queues.push(Queue::open(&config)?);
     }
     for number in 0..50u8 {
         for (ssrc, queue) in (1..).zip(&mut queues) {
@@ -62,11 +65,12 @@ fn two_queues_side_by_side_do_not_touch_each_other() -> Result<(), Refusal> {
 
 #[test]
 fn a_loss_is_nacked_and_repaired() -> Result<(), Refusal> {
-    let rtx = Rtx { payload_type: 97, ssrc: 9 };
-    let mut queue = Queue::open(&Config { ssrc: 1, rtx: Some(rtx), ..Config::default() })?;
+    let mut config = Config::pcmu(1);
+    config.rtx = Some(Rtx::new(97, 9));
+    let mut queue = Queue::open(&config)?;
     queue.push(ms(0), &datagram(0, 65535, 0, 1, &[1]))?;
     queue.push(ms(40), &datagram(0, 1, 320, 1, &[3]))?;
-    assert_eq!(queue.gaps().map(|gap| gap.number).collect::<Vec<_>>(), [65536]);
+    assert_eq!(queue.gaps().map(|gap| gap.number % 65536).collect::<Vec<_>>(), [0]);
     assert_eq!(queue.timeout(ms(40))?, Some(ms(5)));
     assert_eq!(queue.poll_nack(ms(45))?, [0]);
     assert_eq!(queue.push_rtx(ms(55), &datagram(97, 4, 160, 9, &[0, 0, 2]))?, Repair::Recovered);
@@ -88,7 +92,9 @@ fn a_loss_is_nacked_and_repaired() -> Result<(), Refusal> {
 
 #[test]
 fn jitter_is_told_and_the_smaller_timeout() -> Result<(), Refusal> {
-    let mut queue = Queue::open(&Config { ssrc: 1, initial_nack_delay: ms(200), ..Config::default() })?;
+    let mut config = Config::pcmu(1);
+    config.initial_nack_delay = ms(200);
+    let mut queue = Queue::open(&config)?;
     queue.push(ms(0), &datagram(0, 1, 0, 1, &[1]))?;
     queue.push(ms(1000), &datagram(0, 3, 7840, 1, &[3]))?;
     assert_eq!(queue.figures()?.jitter, Duration::from_micros(1250)); // 10 ticks of 8,000 a second
@@ -125,7 +131,7 @@ fn settings_out_of_range_are_refused() {
         |config| config.max_nack_attempts = 0,
         |config| config.max_nack_attempts = 256,
         |config| config.payload_type = 128,
-        |config| config.rtx = Some(Rtx { payload_type: 128, ssrc: 0 }),
+        |config| config.rtx = Some(Rtx::new(128, 0)),
     ];
     for fault in faults {
         let mut config = Config::default();
@@ -137,7 +143,7 @@ fn settings_out_of_range_are_refused() {
 
 #[test]
 fn each_turned_bit_is_refused() -> Result<(), Refusal> {
-    let mut queue = Queue::open(&Config { ssrc: 1, ..Config::default() })?;
+    let mut queue = Queue::open(&Config::pcmu(1))?;
     queue.push(ms(10), &datagram(0, 1, 0, 1, &[1]))?;
     let good = datagram(0, 2, 160, 1, &[2]);
     // padding, extension, CSRC count and marker may be otherwise
@@ -153,5 +159,115 @@ fn each_turned_bit_is_refused() -> Result<(), Refusal> {
     assert_eq!(queue.push(ms(9), &good), Err(Refusal::Clock));
     assert_eq!(queue.push_rtx(ms(20), &good), Err(Refusal::NoRtx));
     assert_eq!(queue.push(ms(20), &good)?, Media::Queued);
+    Ok(())
+}
+
+#[test]
+fn presets_have_the_clock_rates_of_their_formats() {
+    let of = |config: Config| (config.payload_type, config.clock_rate, config.ssrc);
+    assert_eq!(of(Config::pcmu(1)), (0, 8_000, 1));
+    assert_eq!(of(Config::pcma(2)), (8, 8_000, 2));
+    assert_eq!(of(Config::g722(3)), (9, 8_000, 3));
+    assert_eq!(of(Config::opus(111, 4)), (111, 48_000, 4));
+    for config in [Config::pcmu(1), Config::pcma(2), Config::g722(3), Config::opus(127, 4)] {
+        assert!(Queue::open(&config).is_ok());
+    }
+    assert_eq!(Queue::open(&Config::opus(128, 4)).err(), Some(Refusal::Settings));
+}
+
+/// Settings that differ in every field from the default.
+fn other() -> Config {
+    let mut config = Config::opus(111, 0xa1b2_c3d4);
+    (config.mode, config.delay, config.max_entries, config.max_gaps) = (Mode::Passthrough, ms(61), 7, 1001);
+    (config.initial_nack_delay, config.default_nack_resend_delay) = (ms(6), ms(21));
+    (config.max_nack_attempts, config.nack_window, config.rtx) = (4, ms(201), Some(Rtx::new(112, 5)));
+    config
+}
+
+#[test]
+fn a_queue_tells_its_settings() -> Result<(), Refusal> {
+    for config in [Config::pcmu(3), other()] {
+        assert_eq!(Queue::open(&config)?.config(), config);
+    }
+    Ok(())
+}
+
+#[test]
+fn reopened_in_place_a_queue_is_as_new() -> Result<(), Refusal> {
+    let mut shallow = Config::pcmu(1);
+    shallow.max_entries = 3;
+    // the same lengths, then others
+    for config in [Config::pcma(2), shallow, other()] {
+        let mut queue = Queue::open(&Config::pcmu(1))?;
+        queue.push(ms(10_000), &datagram(0, 1, 0, 1, &[1]))?;
+        queue.push(ms(10_000), &datagram(0, 9, 0, 1, &[1]))?;
+        queue.reopen(&config)?;
+        assert_eq!((queue.config(), queue.waiting().len(), queue.gaps().len()), (config, 0, 0));
+        assert_eq!(format!("{queue:?}"), format!("{:?}", Queue::open(&config)?));
+        // its clock starts anew
+        let first = datagram(config.payload_type, 7, 0, config.ssrc, &[2]);
+        assert_eq!(queue.push(ms(0), &first)?, Media::Queued);
+    }
+    Ok(())
+}
+
+#[test]
+fn refused_settings_leave_a_queue_as_it_was() -> Result<(), Refusal> {
+    let mut queue = Queue::open(&Config::pcmu(1))?;
+    queue.push(ms(5), &datagram(0, 1, 0, 1, &[1]))?;
+    let (mut rate, mut depth) = (Config::pcmu(2), Config::pcmu(2));
+    (rate.clock_rate, depth.max_entries) = (0, 1025);
+    for config in [rate, depth] {
+        assert_eq!(queue.reopen(&config), Err(Refusal::Settings));
+        assert_eq!((queue.config(), queue.clock(), queue.waiting().len()), (Config::pcmu(1), ms(5), 1));
+    }
+    assert_eq!(queue.poll(ms(105))?.expect("still there").payload, [1]);
+    Ok(())
+}
+
+#[test]
+fn a_header_is_read_for_routing() {
+    let bytes = datagram(0x80 | 97, 0x1122, 0x3344_5566, 0xa1b2_c3d4, &[7]);
+    let header = Header::of(&bytes).expect("RTP");
+    assert_eq!((header.payload_type, header.marker, header.sequence_number), (97, true, 0x1122));
+    assert_eq!((header.timestamp, header.ssrc), (0x3344_5566, 0xa1b2_c3d4));
+    assert!(Header::of(&bytes[..12]).is_some() && Header::of(&bytes[..11]).is_none());
+    for version in [0x00, 0x40, 0xc0] {
+        let mut bytes = bytes.clone();
+        bytes[0] = version;
+        assert_eq!(Header::of(&bytes), None);
+    }
+    // a sender report's second byte is 200, that is marker and 72
+    let types: Vec<u8> =
+        (0..128).filter(|pt| Header::of(&datagram(*pt, 0, 0, 0, &[])).unwrap().may_be_rtcp()).collect();
+    assert_eq!(types, (64..=95).collect::<Vec<_>>());
+}
+
+#[test]
+fn senders_one_bit_apart_are_told() -> Result<(), Refusal> {
+    let with = |payload_type, ssrc| {
+        let mut config = Config::opus(96, 0x10);
+        config.rtx = Some(Rtx::new(payload_type, ssrc));
+        config
+    };
+    let apart = |payload_type, ssrc| with(payload_type, ssrc).two_bits_apart();
+    assert!(Config::opus(96, 0x10).two_bits_apart());
+    assert!(!apart(96, 0x10) && !apart(97, 0x10) && !apart(96, 0x11) && !apart(96, 0x8000_0010));
+    assert!(apart(97, 0x11) && apart(99, 0x10) && apart(96, 0x13));
+    // and so it is: where they are one bit apart, a media packet with that bit turned over is taken for a repair
+    for (config, answer) in [(with(97, 0x10), Ok(Repair::Recovered)), (with(99, 0x10), Err(Refusal::PayloadType))] {
+        let mut queue = Queue::open(&config)?;
+        queue.push(ms(0), &datagram(96, 10, 0, 0x10, &[]))?;
+        queue.push(ms(40), &datagram(96, 12, 320, 0x10, &[]))?;
+        let turned = datagram(96 ^ 1, 13, 480, 0x10, &[0, 11, 3]);
+        assert_eq!(queue.push_rtx(ms(41), &turned), answer);
+    }
+    // voice and positions, as docs/USING.md has them
+    let (mut voice, mut positions) = (Config::pcmu(42), Config::opus(96, 41));
+    (voice.rtx, positions.rtx) = (Some(Rtx::new(99, 44)), Some(Rtx::new(101, 47)));
+    assert!(voice.two_bits_apart() && positions.two_bits_apart() && voice.bits_apart(&positions) >= 4);
+    // 0x10 and 0x23 differ in three bits, 0x10 and the repairs' 0x21 in three, 0x31 and 0x23 in two
+    let (one, other) = (with(96, 0x31), Config::opus(96, 0x23));
+    assert_eq!((one.bits_apart(&other), other.bits_apart(&one), one.bits_apart(&one)), (2, 2, 0));
     Ok(())
 }

@@ -95,3 +95,7 @@ lengths entries gaps =
       remembered = rememberedLength;
     })
     noLengths
+
+-- ---- the version of the boundary: 1,000,000 · major + 1,000 · minor + patch
+abbrev pub VERSION : ℕ
+VERSION = 2000

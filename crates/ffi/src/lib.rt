@@ -1,4 +1,4 @@
-// The library for C and Rust: the opening, the eight calls and two readings, on words that the caller keeps and storage that it lends.
+// The library for C and Rust: the opening, the eight calls, two readings and the version, on words that the caller keeps and storage that it lends.
 // No function asks anything of its caller but live slices of the lengths passed, none of which overlaps another that is written.
 ghost use mathlib.Core.Path.{_≡_};
 ghost use mathlib.Core.List.{[]};
@@ -32,6 +32,9 @@ use poll::nack;
 use push::rtx;
 use queue::open;
 use queue::reading;
+
+// The version of this library, as 1,000,000 · major + 1,000 · minor + patch; docs/VERSIONS.md says what changes it.
+pub const VERSION: u64 = 2000;
 
 // A refused opening gives a session of zeros.
 #[no_mangle]
@@ -292,6 +295,14 @@ pub extern "C" fn bizhgemu_lengths(max_entries: usize, max_gaps: usize) -> Lengt
         gaps: GAP_WORDS * max_gaps,
         remembered: REMEMBERED_WORDS * MAX_LOST_NACKED,
     }
+}
+
+// So that a program can tell an archive that is not its header's.
+#[no_mangle]
+pub extern "C" fn bizhgemu_version() -> u64
+    ensures { λ r. ⌜ r ≡ Exported.VERSION ⌝ }
+{
+    VERSION
 }
 
 // What the caller has after one call, the next one takes up.

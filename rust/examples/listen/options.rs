@@ -1,26 +1,45 @@
 //! The command line.
 
-use bizhgemu::{Config, Mode, Rtx};
+use crate::wav::Format;
+use bizhgemu::{Config, Mode, Rtx, Rules, Sender};
 use std::fs::File;
 use std::io::{self, Write};
 use std::net::UdpSocket;
 use std::time::Duration;
 
-const USAGE: &str = "usage: listen [OPTION VALUE ..]
+pub const USAGE: &str = "usage: listen [OPTION VALUE ..]
+
+Hears RTP from a UDP port: payloads out in order, a line of figures each second on standard error, and what the figures mean.
+
   --address HOST:PORT  where RTP comes in                            127.0.0.1:5004
   --pt N               payload type of the media                     0
-  --ssrc N|any         its sender; any: that of the first of this PT any
+  --ssrc N|any         its sender; any: whoever sends this payload type   any
+  --callers N          with --ssrc any: how many senders are heard at a time   1
   --clock-rate HZ      clock rate of its timestamps                  8000
   --delay MS           how long packets are kept, or `none`          100
   --depth D            most packets kept                             100
   --gaps G             most numbers missing at a time                999
   --rtx-pt N           payload type of repairs                       no repairs
-  --rtx-ssrc N         sender of repairs                             0
+  --rtx-ssrc N|media   sender of repairs; media: that of the media   media
   --resend MS          from one NACK to the next while no round trip is measured   20
   --nack print|ADDRESS NACK numbers: a line on standard error, or a datagram with that line   not told
-  --out FILE           payloads in order                             standard output
+  --restart N|never    packets dropped one after the other that mean a restart     10
+  --out FILE           payloads in order, of one caller              standard output, unless --wav is given
+  --wav PREFIX         sound of each caller, as PREFIX-SSRC.wav      none
+  --format NAME        pcmu, pcma or l16, for --wav                  by payload type: 0, 8, 10 and 11
+  --channels N         of l16, for --wav                             1 (2 for payload type 10)
+  --figures FILE       the figures as JSON lines; as CSV where FILE ends in .csv   none
   --seconds N          how long to run                               until stopped
-Numbers may be written in hexadecimal, as 0x1f.";
+  --help               this text
+Numbers may be written in hexadecimal, as 0x1f.
+
+For example, 5 s of sound from GStreamer, heard and then played:
+  listen --seconds 6 --wav heard &
+  gst-launch-1.0 -q audiotestsrc is-live=true num-buffers=250 samplesperbuffer=160 ! audio/x-raw,rate=8000,channels=1 ! mulawenc \\
+      ! rtppcmupay max-ptime=20000000 ! udpsink host=127.0.0.1 port=5004
+  ffplay -autoexit heard-*.wav
+Payloads over 320 bytes are refused under 5. GStreamer's payloaders make them as long as the buffers they get, up to mtu=1400: give
+max-ptime. ffmpeg fills packets up to pkt_size=1472: give pkt_size, as rtp://127.0.0.1:5004?pkt_size=172.";
 
 /// What becomes of numbers to NACK. A box sends them as RTCP feedback (RFC 4585); here they are a line of text, which a script can read.
 pub enum Nacks {
@@ -46,10 +65,17 @@ impl Nacks {
 pub struct Options {
     pub address: String,
     pub config: Config,
-    /// None: that of the first datagram of the payload type.
+    pub rules: Rules,
+    /// None: whoever sends the payload type.
     pub ssrc: Option<u32>,
+    pub callers: usize,
     pub nacks: Nacks,
     pub seconds: Option<Duration>,
+    pub wav: Option<String>,
+    pub figures: Option<String>,
+    rtx_ssrc: Option<u32>,
+    format: Option<Format>,
+    channels: Option<u16>,
     out: Option<String>,
 }
 
@@ -58,17 +84,26 @@ impl Options {
         let mut options = Options {
             address: "127.0.0.1:5004".into(),
             config: Config::default(),
+            rules: Rules::default(),
             ssrc: None,
+            callers: 1,
             nacks: Nacks::Untold,
             seconds: None,
+            wav: None,
+            figures: None,
+            rtx_ssrc: None,
+            format: None,
+            channels: None,
             out: None,
         };
         while let Some(word) = words.next() {
-            let value = words.next().ok_or(USAGE)?;
+            let value =
+                words.next().ok_or_else(|| format!("{word}: an option is followed by its value; see listen --help"))?;
             options
                 .set(&word, &value)
-                .ok_or_else(|| format!("{word} {value}: not an option and its value\n{USAGE}"))?;
+                .ok_or_else(|| format!("{word} {value}: not an option and its value; see listen --help"))?;
         }
+        options.settle()?;
         Ok(options)
     }
 
@@ -79,33 +114,84 @@ impl Options {
             "--pt" => config.payload_type = number(value)?,
             "--ssrc" if value == "any" => self.ssrc = None,
             "--ssrc" => self.ssrc = Some(number(value)?),
+            "--callers" => self.callers = number::<usize>(value).filter(|callers| *callers > 0)?,
             "--clock-rate" => config.clock_rate = number(value)?,
             "--delay" if value == "none" => config.mode = Mode::Passthrough,
             "--delay" => config.delay = Duration::from_millis(number(value)?),
             "--depth" => config.max_entries = number(value)?,
             "--gaps" => config.max_gaps = number(value)?,
-            "--rtx-pt" => self.rtx().payload_type = number(value)?,
-            "--rtx-ssrc" => self.rtx().ssrc = number(value)?,
+            "--rtx-pt" => config.rtx = Some(Rtx::new(number(value)?, 0)),
+            "--rtx-ssrc" if value == "media" => self.rtx_ssrc = None,
+            "--rtx-ssrc" => self.rtx_ssrc = Some(number(value)?),
             "--resend" => config.default_nack_resend_delay = Duration::from_millis(number(value)?),
             "--nack" if value == "print" => self.nacks = Nacks::Printed,
             "--nack" => self.nacks = Nacks::Sent(value.into()),
+            "--restart" if value == "never" => self.rules.restart = None,
+            "--restart" => self.rules.restart = Some(number(value)?),
             "--out" => self.out = Some(value.into()),
+            "--wav" => self.wav = Some(value.into()),
+            "--format" => self.format = Some(Format::named(value)?),
+            "--channels" => self.channels = Some(number::<u16>(value).filter(|channels| (1..=8).contains(channels))?),
+            "--figures" => self.figures = Some(value.into()),
             "--seconds" => self.seconds = Some(Duration::from_secs(number(value)?)),
             _ => return None,
         }
         Some(())
     }
 
-    fn rtx(&mut self) -> &mut Rtx {
-        self.config.rtx.get_or_insert(Rtx { payload_type: 0, ssrc: 0 })
+    /// What one option says about another.
+    fn settle(&mut self) -> Result<(), String> {
+        self.config.ssrc = self.ssrc.unwrap_or(0);
+        if let Some(rtx) = &mut self.config.rtx {
+            rtx.ssrc = self.rtx_ssrc.unwrap_or(self.config.ssrc);
+        } else if self.rtx_ssrc.is_some() {
+            return Err("--rtx-ssrc: repairs need --rtx-pt too".into());
+        }
+        if self.ssrc.is_none() && self.callers == 1 {
+            self.rules.sender = Sender::follow();
+        }
+        if self.callers > 1 && (self.ssrc.is_some() || self.rtx_ssrc.is_some()) {
+            return Err("--callers: several are told apart by --ssrc any, and their repairs by --rtx-ssrc media".into());
+        }
+        if self.callers > 1 && self.out.is_some() {
+            return Err("--out: of several callers; give --wav".into());
+        }
+        if self.wav.is_some() && self.sound().is_none() {
+            return Err(format!("--wav: give --format for payload type {}", self.config.payload_type));
+        }
+        Ok(())
     }
 
+    /// Whether it is known from the beginning how far media and repairs are apart: by their SSRCs, or because they have one.
+    pub fn senders_known(&self) -> bool {
+        self.ssrc.is_some() || self.rtx_ssrc.is_none()
+    }
+
+    /// How the payloads are decoded, and how many channels they have.
+    pub fn sound(&self) -> Option<(Format, u16)> {
+        let usual = match self.config.payload_type {
+            0 => Some(Format::Pcmu),
+            8 => Some(Format::Pcma),
+            10 | 11 => Some(Format::L16),
+            _ => None,
+        };
+        let channels = self.channels.unwrap_or(if self.config.payload_type == 10 { 2 } else { 1 });
+        Some((self.format.or(usual)?, channels))
+    }
+
+    /// Where payloads go: nowhere where the sound is asked for instead.
     pub fn output(&self) -> io::Result<Box<dyn Write>> {
         Ok(match &self.out {
-            Some(file) => Box::new(File::create(file)?),
+            Some(file) => Box::new(File::create(file).map_err(|error| of_file(file, error))?),
+            None if self.wav.is_some() || self.callers > 1 => Box::new(io::sink()),
             None => Box::new(io::stdout()),
         })
     }
+}
+
+/// An error with the name of its file.
+pub fn of_file(file: &str, error: io::Error) -> io::Error {
+    io::Error::new(error.kind(), format!("{file}: {error}"))
 }
 
 fn number<T: TryFrom<u64>>(value: &str) -> Option<T> {

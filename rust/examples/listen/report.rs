@@ -1,33 +1,47 @@
 //! The line of figures, and the signs of trouble that a stream shows.
 
-use bizhgemu::{Config, Figures, LastReceived, Mode, Queue, Refusal};
+use crate::figures::{Figures, HELD, HELD_STEP_MS};
+use bizhgemu::{Config, Event, Header, Heard, LastReceived, Mode, Queue, Receiver, Refusal, Rules, Taken};
 use std::time::Duration;
 
 /// Media packets dropped one after the other from which on the sender is taken to have restarted.
 const RESTART: u64 = 25;
 
 /// What the queue does not count by itself.
-#[derive(Clone, Copy, Default)]
 pub struct Report {
-    /// By number.
-    refused: [u64; 17],
+    /// Dropped in this session, and in a row.
     dropped: u64,
-    pub dropped_in_a_row: u64,
-    pub handed_out: u64,
-    pub nacked: u64,
-    pub recovered: u64,
-    /// Datagrams that came before a session was open.
-    pub before_session: u64,
-    /// Payload type and SSRC of the latest datagram refused for them, RTCP aside.
+    dropped_in_a_row: u64,
+    /// Payload type and SSRC of the latest datagram refused for them, RTCP aside; bytes of the latest that was too large.
     other_payload_type: Option<u8>,
     other_ssrc: Option<u32>,
+    too_large: usize,
+    /// Whether it was said what to do about packets that are too large.
+    advised: bool,
+    held: [u64; HELD],
     before: Before,
 }
 
+impl Default for Report {
+    fn default() -> Report {
+        Report {
+            dropped: 0,
+            dropped_in_a_row: 0,
+            other_payload_type: None,
+            other_ssrc: None,
+            too_large: 0,
+            advised: false,
+            held: [0; HELD],
+            before: Before::default(),
+        }
+    }
+}
+
 /// The figures of the line before.
-#[derive(Clone, Copy, Default)]
+#[derive(Default)]
 struct Before {
-    refused: [u64; 17],
+    refused: Vec<u64>,
+    session: u64,
     received: u64,
     lost: u64,
     pushed_out: u64,
@@ -37,109 +51,146 @@ struct Before {
 }
 
 impl Report {
-    pub fn dropped(&mut self) {
-        self.dropped += 1;
-        self.dropped_in_a_row += 1;
-    }
-
-    pub fn refused(&mut self, refusal: Refusal, datagram: &[u8]) {
-        self.refused[usize::from(refusal.number())] += 1;
-        match (refusal, datagram) {
-            // RTCP's packet types read as payload types 72 to 79.
-            (Refusal::PayloadType, [_, second, ..]) if !(72..=79).contains(&(second & 0x7f)) => {
-                self.other_payload_type = Some(second & 0x7f);
+    pub fn taken(&mut self, taken: Taken, datagram: &[u8]) {
+        match taken {
+            Taken::Queued => self.dropped_in_a_row = 0,
+            Taken::Dropped => {
+                self.dropped += 1;
+                self.dropped_in_a_row += 1;
             }
-            (Refusal::Ssrc, [_, _, _, _, _, _, _, _, a, b, c, d, ..]) => {
-                self.other_ssrc = Some(u32::from_be_bytes([*a, *b, *c, *d]));
-            }
+            Taken::Strange => self.other_ssrc = Header::of(datagram).map(|header| header.ssrc),
+            Taken::Refused(refusal) => self.refused(refusal, datagram),
             _ => {}
         }
     }
 
-    /// Prints the line of this second and the signs in it.
-    pub fn print(&mut self, now: Duration, queue: Option<&mut Queue>, config: &Config) {
-        let Some(queue) = queue else {
-            eprintln!(
-                "{:4} s  no session yet, {} datagrams not of this payload type",
-                now.as_secs(),
-                self.before_session
-            );
-            return;
-        };
-        let (figures, rtx) = match (queue.figures(), queue.rtx_stats()) {
-            (Ok(figures), Ok(rtx)) => (figures, rtx),
-            (Err(refusal), _) | (_, Err(refusal)) => return eprintln!("{refusal}"),
-        };
-        let round_trip = rtx.and_then(|rtx| rtx.rtt).map_or("-".to_string(), ms);
-        eprintln!(
-            "{:4} s  received {} dropped {} lost {} loss {:.4} jitter {} round trip {round_trip} waiting {} missing {} out {}{}",
-            now.as_secs(),
-            figures.packets_received,
-            figures.packets_dropped,
-            figures.packets_lost,
-            figures.loss,
-            ms(figures.jitter),
-            queue.waiting().len(),
-            queue.gaps().len(),
-            self.handed_out,
-            self.refusals(),
-        );
-        for sign in self.signs(&figures, queue, config) {
-            eprintln!("        {sign}");
+    fn refused(&mut self, refusal: Refusal, datagram: &[u8]) {
+        let header = Header::of(datagram);
+        match refusal {
+            Refusal::PayloadType => {
+                let media = header.filter(|header| !header.may_be_rtcp());
+                self.other_payload_type = media.map(|header| header.payload_type).or(self.other_payload_type);
+            }
+            Refusal::Ssrc => self.other_ssrc = header.map(|header| header.ssrc),
+            Refusal::PayloadTooLarge => self.too_large = datagram.len() - 12,
+            _ => {}
         }
-        self.remember(&figures, queue);
     }
 
-    fn refusals(&self) -> String {
-        let counts = self.refused.iter().enumerate().filter(|(_, count)| **count > 0);
-        counts.fold(String::new(), |line, (number, count)| format!("{line} refused {number}: {count}"))
+    pub fn handed_out(&mut self, now: Duration, heard: &Heard<'_>) {
+        if let Some(came) = heard.packet.received_at {
+            let held = now.saturating_sub(came).as_secs_f64() * 1e3 / HELD_STEP_MS;
+            self.held[(held as usize).min(HELD - 1)] += 1;
+        }
+    }
+
+    pub fn event(&mut self, event: Event) {
+        if let Event::Reopened { .. } = event {
+            self.dropped = 0;
+            self.dropped_in_a_row = 0;
+        }
+    }
+
+    /// Prints the line of this second and the signs in it; none where nothing came yet.
+    pub fn print(&mut self, now: Duration, receiver: &mut Receiver, several: bool, rules: &Rules) -> Option<Figures> {
+        let Some(figures) = self.figures(now, receiver) else {
+            eprintln!("{:4} s  {}", now.as_secs(), Refusal::Session);
+            return None;
+        };
+        let mut line = format!("{:4} s  ", now.as_secs());
+        if several {
+            line += &format!("{:#010x} ", figures.ssrc);
+        }
+        if !receiver.has_sender() {
+            line += "nobody yet";
+        } else {
+            line += &told(&figures);
+        }
+        eprintln!("{line}{}", refusals(&figures.refused));
+        if self.before.session != figures.session {
+            let refused = std::mem::take(&mut self.before.refused);
+            self.before = Before { refused, session: figures.session, nacked: figures.nacked, ..Before::default() };
+            self.before.recovered = figures.recovered;
+        }
+        for sign in self.signs(&figures, receiver, rules) {
+            eprintln!("        {sign}");
+        }
+        self.remember(&figures, receiver.queue());
+        let anything = receiver.has_sender() || figures.refused.iter().any(|count| *count > 0);
+        anything.then_some(figures)
+    }
+
+    fn figures(&mut self, now: Duration, receiver: &mut Receiver) -> Option<Figures> {
+        let figures = receiver.figures()?;
+        let tally = *receiver.tally();
+        Some(Figures {
+            second: now.as_secs(),
+            ssrc: receiver.config().ssrc,
+            session: tally.sessions,
+            received: figures.packets_received,
+            dropped: figures.packets_dropped,
+            lost: figures.packets_lost,
+            loss: figures.loss,
+            jitter_ms: figures.jitter.as_secs_f64() * 1e3,
+            round_trip_ms: receiver.rtx_stats().and_then(|rtx| rtx.rtt).map(|rtt| rtt.as_secs_f64() * 1e3),
+            waiting: receiver.queue().waiting().len(),
+            missing: receiver.queue().gaps().len(),
+            out: tally.handed_out,
+            nacked: tally.nacked,
+            recovered: tally.recovered,
+            not_needed: tally.not_needed,
+            refused: Refusal::all().map(|refusal| tally.refused(refusal)).collect(),
+            held: std::mem::replace(&mut self.held, [0; HELD]),
+        })
     }
 
     fn remember(&mut self, figures: &Figures, queue: &Queue) {
         self.before = Before {
-            refused: self.refused,
-            received: figures.packets_received,
-            lost: figures.packets_lost,
+            refused: figures.refused.clone(),
+            session: figures.session,
+            received: figures.received,
+            lost: figures.lost,
             pushed_out: self.pushed_out(figures),
-            nacked: self.nacked,
-            recovered: self.recovered,
+            nacked: figures.nacked,
+            recovered: figures.recovered,
             last: queue.last_received(),
         };
     }
 
     /// Packets dropped at the front: those that the answers did not call dropped.
     fn pushed_out(&self, figures: &Figures) -> u64 {
-        figures.packets_dropped - self.dropped
+        figures.dropped.saturating_sub(self.dropped)
     }
 
-    fn rose(&self, refusal: Refusal) -> bool {
-        let number = usize::from(refusal.number());
-        self.refused[number] > self.before.refused[number]
+    /// By how much a refusal rose.
+    fn rose(&self, figures: &Figures, refusal: Refusal) -> u64 {
+        let place = usize::from(refusal.number()) - 1;
+        figures.refused[place] - self.before.refused.get(place).unwrap_or(&0)
     }
 
     /// docs/USING.md, "What real senders do".
-    fn signs(&self, figures: &Figures, queue: &Queue, config: &Config) -> Vec<String> {
+    fn signs(&mut self, figures: &Figures, receiver: &Receiver, rules: &Rules) -> Vec<String> {
+        let (queue, config) = (receiver.queue(), receiver.config());
         let mut signs = Vec::new();
-        let missing = figures.packets_lost > self.before.lost || queue.gaps().len() > 0;
+        let missing = figures.lost > self.before.lost || queue.gaps().len() > 0;
         if let Some(pt) = self.other_payload_type
-            && self.rose(Refusal::PayloadType)
+            && self.rose(figures, Refusal::PayloadType) > 0
             && missing
         {
             signs.push(format!(
                 "refused 6 rises beside loss: payload type {pt} is in the stream too, and its numbers count as lost"
             ));
         }
-        if self.rose(Refusal::PayloadTooLarge) {
-            signs.push("refused 5 rises: payloads over 320 bytes; set the sender to 20 ms packets".into());
-        }
+        signs.extend(self.size_sign(figures));
+        let alone = figures.received == self.before.received;
         if let Some(ssrc) = self.other_ssrc
-            && self.rose(Refusal::Ssrc)
-            && figures.packets_received == self.before.received
+            && self.rose(figures, Refusal::Ssrc) > 0
+            && alone
         {
-            signs.push(format!("nothing but refused 7: the sender now is {ssrc:#010x}; open a new session with it"));
+            signs.push(format!("nothing but refused 7: the sender now is {ssrc:#010x}"));
         }
-        if self.dropped_in_a_row >= RESTART {
-            signs.push(format!("{} dropped in a row: the sender restarted; open a new session", self.dropped_in_a_row));
+        if rules.restart.is_none() && self.dropped_in_a_row >= RESTART {
+            signs.push(format!("{} dropped in a row: the sender restarted", self.dropped_in_a_row));
         }
         signs.extend(self.depth_sign(figures, config));
         signs.extend(self.nack_sign(figures, queue));
@@ -147,31 +198,52 @@ impl Report {
         signs
     }
 
+    fn size_sign(&mut self, figures: &Figures) -> Option<String> {
+        let (large, bytes) = (self.rose(figures, Refusal::PayloadTooLarge), self.too_large);
+        if large == 0 {
+            return None;
+        }
+        if figures.received > self.before.received {
+            return Some(format!(
+                "{large} payloads over 320 bytes (the last: {bytes}): shorter packets or a lower bit rate at the sender"
+            ));
+        }
+        let advice = match std::mem::replace(&mut self.advised, true) {
+            true => "",
+            false => {
+                ". GStreamer's payloaders go up to mtu=1400: give max-ptime=20000000; ffmpeg's to pkt_size=1472: give ?pkt_size=172 for PCMU. \
+                 At 112 kbit/s and more not even 20 ms always fit"
+            }
+        };
+        Some(format!(
+            "nothing but refused 5, payloads over 320 bytes (the last: {bytes}): shorter packets or a lower bit rate at the sender{advice}"
+        ))
+    }
+
     fn depth_sign(&self, figures: &Figures, config: &Config) -> Option<String> {
-        let pushed_out = self.pushed_out(figures) - self.before.pushed_out;
+        let pushed_out = self.pushed_out(figures).saturating_sub(self.before.pushed_out);
         if pushed_out == 0 {
             return None;
         }
         let depth = config.max_entries;
         Some(match config.mode {
             Mode::SortedQueue => format!(
-                "{pushed_out} pushed out before they were due: D = {depth} is not above delay / packet time; keep at least {} at 20 ms",
+                "{pushed_out} pushed out before they were due: D = {depth} is not above delay / packet time, or they came all at once; keep \
+                 at least {} at 20 ms",
                 config.delay.as_millis().div_ceil(20) + 1
             ),
-            Mode::Passthrough => {
-                format!("{pushed_out} pushed out: D = {depth} came between two polls")
-            }
+            _ => format!("{pushed_out} pushed out: D = {depth} came between two polls"),
         })
     }
 
     fn nack_sign(&self, figures: &Figures, queue: &Queue) -> Option<String> {
-        let nacked = self.nacked - self.before.nacked;
-        let settled = self.recovered - self.before.recovered + figures.packets_lost - self.before.lost;
+        let nacked = figures.nacked - self.before.nacked;
+        let settled = figures.recovered - self.before.recovered + figures.lost.saturating_sub(self.before.lost);
         if nacked > 20 + 10 * settled {
             Some(format!(
                 "{nacked} numbers NACKed, {settled} recovered or lost: NACKs are repeated faster than repairs come"
             ))
-        } else if self.recovered > 2 && queue.round_trip().is_none() {
+        } else if figures.recovered > 2 && queue.round_trip().is_none() {
             Some("repairs come, no round trip is measured: each was NACKed twice; the resend delay is below the round trip".into())
         } else {
             None
@@ -188,6 +260,22 @@ impl Report {
     }
 }
 
-fn ms(duration: Duration) -> String {
-    format!("{:.2} ms", duration.as_secs_f64() * 1e3)
+fn told(figures: &Figures) -> String {
+    let round_trip = figures.round_trip_ms.map_or("-".to_string(), |ms| format!("{ms:.2} ms"));
+    format!(
+        "received {} dropped {} lost {} loss {:.4} jitter {:.2} ms round trip {round_trip} waiting {} missing {} out {}",
+        figures.received,
+        figures.dropped,
+        figures.lost,
+        figures.loss,
+        figures.jitter_ms,
+        figures.waiting,
+        figures.missing,
+        figures.out
+    )
+}
+
+fn refusals(refused: &[u64]) -> String {
+    let counts = (1..).zip(refused).filter(|(_, count)| **count > 0);
+    counts.fold(String::new(), |line, (number, count)| format!("{line} refused {number}: {count}"))
 }

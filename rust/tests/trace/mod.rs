@@ -41,30 +41,28 @@ impl Host {
 fn config(fields: [u64; 13]) -> Option<Config> {
     let [mode, clock_rate, max_entries, max_gaps, delay, initial, resend, max, ..] = fields;
     let [.., payload_type, ssrc, rtx, rtx_pt, rtx_ssrc] = fields;
-    let repairs =
-        Rtx { payload_type: u8::try_from(rtx_pt).ok().filter(|pt| *pt <= 127)?, ssrc: rtx_ssrc.try_into().ok()? };
-    Some(Config {
-        mode: match mode {
-            0 => Mode::Passthrough,
-            1 => Mode::SortedQueue,
-            _ => return None,
-        },
-        clock_rate: clock_rate.try_into().ok()?,
-        delay: Duration::from_nanos(delay),
-        max_entries: max_entries.try_into().ok()?,
-        max_gaps: max_gaps.try_into().ok()?,
-        initial_nack_delay: Duration::from_nanos(initial),
-        default_nack_resend_delay: Duration::from_nanos(resend),
-        max_nack_attempts: max.try_into().ok()?,
-        payload_type: payload_type.try_into().ok()?,
-        ssrc: ssrc.try_into().ok()?,
-        rtx: match rtx {
-            0 => None,
-            1 => Some(repairs),
-            _ => return None,
-        },
-        ..Config::default()
-    })
+    let repairs = Rtx::new(u8::try_from(rtx_pt).ok().filter(|pt| *pt <= 127)?, rtx_ssrc.try_into().ok()?);
+    let mut config = Config::default();
+    config.mode = match mode {
+        0 => Mode::Passthrough,
+        1 => Mode::SortedQueue,
+        _ => return None,
+    };
+    config.clock_rate = clock_rate.try_into().ok()?;
+    config.delay = Duration::from_nanos(delay);
+    config.max_entries = max_entries.try_into().ok()?;
+    config.max_gaps = max_gaps.try_into().ok()?;
+    config.initial_nack_delay = Duration::from_nanos(initial);
+    config.default_nack_resend_delay = Duration::from_nanos(resend);
+    config.max_nack_attempts = max.try_into().ok()?;
+    config.payload_type = payload_type.try_into().ok()?;
+    config.ssrc = ssrc.try_into().ok()?;
+    config.rtx = match rtx {
+        0 => None,
+        1 => Some(repairs),
+        _ => return None,
+    };
+    Some(config)
 }
 
 fn make(queue: &mut Queue, call: Call) -> Result<String, Refusal> {
@@ -73,11 +71,13 @@ fn make(queue: &mut Queue, call: Call) -> Result<String, Refusal> {
         Call::Media(now, bytes) => match queue.push(at(now), &bytes)? {
             Media::Queued => "queued".into(),
             Media::Dropped => "dropped".into(),
+            other => format!("{other:?}"),
         },
         Call::Repair(now, bytes) => match queue.push_rtx(at(now), &bytes)? {
             Repair::Recovered => "recovered".into(),
             Repair::Redundant => "redundant".into(),
             Repair::TooLate => "too late".into(),
+            other => format!("{other:?}"),
         },
         Call::Poll(now) => queue.poll(at(now))?.map_or("nothing".into(), packet),
         Call::PollNack(now) => nack(queue.poll_nack(at(now))?),
