@@ -84,7 +84,9 @@ fn datagram_refusal(datagram: &[u8], pt: u8, ssrc: Ssrc, largest: usize) -> u64
         return refusals::PAYLOAD_TYPE;
     }
     let own_ssrc = header::ssrc(datagram);
-    if own_ssrc.0 != ssrc.0 {
+    let sender = own_ssrc.0;
+    let expected = ssrc.0;
+    if sender != expected {
         return refusals::SSRC;
     }
     0

@@ -80,16 +80,16 @@ ssrc-requires c κs = search needs
 
 returns-7 : tie.Need-returns-7
 returns-7 c =
-    let c6 = c .before .before .before .before in
+    let c6 = c .before .before in
     let c5 = c6 .before .before in
     sym
     (wrong-ssrc _ _ _ _ (whole (c5 .before .before)) (rw (size (c5 .before)) (c5 .if5 .left))
     (sym (c6 .before .payload-type .ensures) ∙ c6 .if6 .left)
-    (λ e. c .if7 .taken (c .before .before .before .ssrc .ensures ∙ e)))
+    (λ e. c .if7 .taken (c .before .ssrc .ensures ∙ e)))
 
 returns-8 : tie.Need-returns-8
 returns-8 c =
-    let c6 = c .before .before .before .before in
+    let c6 = c .before .before in
     let c5 = c6 .before .before in
     sym
     (not-refused _ _ _ _
@@ -97,7 +97,7 @@ returns-8 c =
       whole = whole (c5 .before .before);
       payload-fits = rw (size (c5 .before)) (c5 .if5 .left);
       right-type = sym (c6 .before .payload-type .ensures) ∙ c6 .if6 .left;
-      right-ssrc = sym (c .before .before .before .ssrc .ensures) ∙ c .if7 .left;
+      right-ssrc = sym (c .before .ssrc .ensures) ∙ c .if7 .left;
     }))
 
 pub datagram-refusal-spec : {M : Type 1} → statement M
