@@ -9,6 +9,7 @@ pub mod Valid
 pub mod Calls
 pub mod Table
 pub mod Did
+pub mod Unaltered
 pub mod Contract
 pub mod StaysSound
 pub mod Flipped

@@ -3,6 +3,7 @@
 ghost use Rattle.model.specs.Across.{FlippedAcross};
 ghost use Rattle.model.specs.Flipped.{FlippedBit};
 ghost use Rattle.model.specs.StaysSound.{StaysSound};
+ghost use Rattle.model.specs.Unaltered.{Unaltered};
 use config::Senders;
 use config::Settings;
 use jitter::Jitter;
@@ -73,4 +74,9 @@ pub fn flipped_bit()
 // Neither call takes it, media or repair, where media and repairs are at least two bits apart in payload type and sender together.
 pub fn flipped_across()
     ensures { λ r. ⌜ FlippedAcross ⌝ }
+{}
+
+// The law that a refused call, or a refused opening, alters nothing.
+pub fn unaltered()
+    ensures { λ r. ⌜ Unaltered ⌝ }
 {}

@@ -3,3 +3,4 @@ pub mod Header
 pub mod Datagram
 pub mod Original
 pub mod OneBit
+pub mod Layout

@@ -5,6 +5,7 @@ ghost use Rattle.rtp_packet.specs.Header.{between};
 ghost use Rattle.rtp_packet.specs.Datagram.{LARGEST-PAYLOAD, LARGEST-REPAIR, wrongPadding, datagramRefusal, packetOf, parsed};
 ghost use Rattle.rtp_packet.specs.Original.{originalOf, originalPayload};
 ghost use Rattle.rtp_packet.specs.OneBit.{OneBit};
+ghost use Rattle.rtp_packet.specs.Layout.{HeaderLayout, RepairLayout};
 
 mod header;
 
@@ -170,4 +171,13 @@ pub fn original_payload(payload: &[u8]) -> &[u8]
 // Nothing is computed: what it ensures is the law that one changed bit of version, payload type or SSRC is refused.
 pub fn one_bit()
     ensures { λ _. ⌜ OneBit ⌝ }
+{}
+
+// The same for what the reader is held to: RFC 3550's picture, as a writer lays it out, and RFC 4588's payload of a repair.
+pub fn header_layout()
+    ensures { λ _. ⌜ HeaderLayout ⌝ }
+{}
+
+pub fn repair_layout()
+    ensures { λ _. ⌜ RepairLayout ⌝ }
 {}
