@@ -1,3 +1,4 @@
 -- What the proofs of several functions, and of other crates, use.
 pub mod Signed
+pub mod Cut
 pub mod Behind

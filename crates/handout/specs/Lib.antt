@@ -1,3 +1,4 @@
 -- The specifications of `handout`.
+pub mod Bits
 pub mod Limit
 pub mod Timeout

@@ -3,10 +3,12 @@ ghost use mathlib.Core.Path.{_≡_};
 ghost use Prim.Native.Nat.{_≤_, _<_, _^_};
 ghost use lib.IntN.{pos, _+ℤ_};
 ghost use lib.Signed.{mag};
+ghost use lib.Ieee.{toSigned};
 ghost use Rattle.rtp.specs.Opt.{timestampOf};
 ghost use Rattle.durations.specs.Seconds.{largest, fromSecsF64};
 ghost use Rattle.config.specs.Valid.{longest};
 ghost use Rattle.handout.specs.Limit.{deltaInRtpTimesteps, asTimestamp, mapInstantToRtpTimestamp, maxTimestamp};
+ghost use Rattle.handout.specs.Bits.{Below52, exponentOf, wholeOf, withSign};
 ghost use Rattle.handout.specs.Timeout.{behind, remainingOf, timeoutReceive};
 use durations::FromSecs;
 use rtp::ExtendedRtpTimestamp;
@@ -14,6 +16,11 @@ use rtp::opt::OptTimestamp;
 
 // Nanoseconds, 2^53: a front packet that was sent longer than this before the last one is due (01, "Hand-out").
 const LONGEST_DELTA: u64 = 9007199254740992;
+
+// Of an f64's bits: the weight of the sign, and that of the digit before the 52 that are stored.
+const SIGN: u64 = 9223372036854775808;
+
+const LEADING_DIGIT: u64 = 4503599627370496;
 
 // The limit: packets of at most this timestamp are handed out at `now`; where there is none, nothing is.
 pub fn max_timestamp(
@@ -52,7 +59,37 @@ fn delta_in_rtp_timesteps(delta: i64, clock_rate: u32) -> i64
     requires { ⌜ (mag delta < 2 ^ 54) × («clock_rate» ≤ 1000000) ⌝ }
     ensures { λ r. ⌜ (r ≡ deltaInRtpTimesteps delta «clock_rate») × (mag r < 2 ^ 62) ⌝ }
 {
-    std::num::truncating_f64_to_i64(durations::signed_seconds(delta) * (clock_rate as f64))
+    truncated(durations::signed_seconds(delta) * (clock_rate as f64))
+}
+
+// A float below 2^52 in size, cut toward zero: sign and whole part come from its bits.
+fn truncated(x: f64) -> i64
+    requires { ⌜ Below52 x ⌝ }
+    ensures { λ r. ⌜ r ≡ toSigned 63 x ⌝ }
+{
+    let bits = f64::to_bits(x);
+    with_sign(bits / SIGN == 1, whole_part(bits))
+}
+
+// The whole part of the size: digits / 2^(1075 - exponent). Below an exponent of 1023 the size is below 1.
+fn whole_part(bits: u64) -> u64
+    requires { ⌜ exponentOf bits ≤ 1074 ⌝ }
+    ensures { λ r. ⌜ r ≡ wholeOf bits ⌝ }
+{
+    let exponent = bits / LEADING_DIGIT % 2048;
+    if exponent < 1023 {
+        return 0;
+    }
+    let digits = bits % LEADING_DIGIT + LEADING_DIGIT;
+    digits / (1u64 << (1075 - exponent))
+}
+
+fn with_sign(negative: bool, whole: u64) -> i64
+    requires { ⌜ whole < 2 ^ 53 ⌝ }
+    ensures { λ r. ⌜ r ≡ withSign negative whole ⌝ }
+{
+    let size = whole as i64;
+    if negative { 0 - size } else { size }
 }
 
 fn add_timesteps(timestamp: ExtendedRtpTimestamp, steps: i64) -> OptTimestamp
