@@ -2,6 +2,7 @@
 pub mod Lists
 pub mod Records
 pub mod Rules
+pub mod Shared
 pub mod Push
 pub mod Poll
 pub mod Storage

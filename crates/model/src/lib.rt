@@ -2,6 +2,7 @@
 // holds what the queue is, for the contracts and for the theorem over every list of calls alike.
 ghost use Rattle.model.specs.Across.{FlippedAcross};
 ghost use Rattle.model.specs.Flipped.{FlippedBit};
+ghost use Rattle.model.specs.Shared.{SharedRules};
 ghost use Rattle.model.specs.StaysSound.{StaysSound};
 ghost use Rattle.model.specs.Unaltered.{Unaltered};
 use config::Senders;
@@ -79,4 +80,9 @@ pub fn flipped_across()
 // The law that a refused call, or a refused opening, alters nothing.
 pub fn unaltered()
     ensures { λ r. ⌜ Unaltered ⌝ }
+{}
+
+// The rules that queue and book share, held to 01's numbers without the one or the other.
+pub fn shared_rules()
+    ensures { λ r. ⌜ SharedRules ⌝ }
 {}
