@@ -1,16 +1,16 @@
--- `records` is safe and ends: the place stays within the count.
+-- `records` is safe and ends: a record is written in each turn.
 use Prim.Native.Nat.{_≤_, _-_}
 use mathlib.Core.Path.{_≡_}
 use lib.ListN.{length}
 use borrow.Author.Needs.{needs}
-use Rattle.replay.proofs.lists.records.Statement.{statement}
-use Rattle.replay.proofs.lists.records.Tie as tie
+use Rattle.replay.proofs.state.records.Statement.{statement}
+use Rattle.replay.proofs.state.records.Tie as tie
 
 abbrev Inv-loop : tie.InvT-loop
-Inv-loop out₀ at list words bytes n to₀ i₀ out to i = (i ≤ n) × (length out ≡ length out₀)
+Inv-loop out₀ at list words payloads n to₀ i₀ out to i = (i ≤ n) × (length out ≡ length out₀)
 
 abbrev μ-loop : tie.MeasureT-loop
-μ-loop out₀ at list words bytes n to₀ i₀ out to i = n - i
+μ-loop out₀ at list words payloads n to₀ i₀ out to i = n - i
 
 loop-holds : tie.Need-loop-holds Inv-loop μ-loop
 loop-holds c = search needs

@@ -1,0 +1,87 @@
+// The parts of an answer, put into a lent buffer from a place on; each function answers the place behind them. What does not fit is left
+// out: `output::room` makes room for a line.
+ghost use Prim.Native.Nat.{_*_, _≤_};
+ghost use lib.ListN.{length};
+use rtp::opt::Opt;
+
+pub(crate) fn text(out: &mut [u8], at: usize, s: &[u8]) -> usize {
+    if out.len() < at {
+        return at;
+    }
+    if out.len() - at < s.len() {
+        return at;
+    }
+    bytes::copy(s, &mut out[at..]);
+    at + s.len()
+}
+
+// A field, with the blank before it.
+fn field(out: &mut [u8], at: usize, s: &[u8]) -> usize {
+    let first = text(out, at, b" ");
+    text(out, first, s)
+}
+
+pub(crate) fn number(out: &mut [u8], at: usize, n: u64) -> usize {
+    let mut digits = [0u8; 20];
+    let k = io::decimal(n, &mut digits);
+    field(out, at, &digits[..k])
+}
+
+// A number that may be missing.
+pub(crate) fn opt(out: &mut [u8], at: usize, o: Opt) -> usize {
+    match o {
+        Opt::None => text(out, at, b" -"),
+        Opt::Some(n) => number(out, at, n),
+    }
+}
+
+pub(crate) fn flag(out: &mut [u8], at: usize, set: bool) -> usize {
+    if set {
+        return text(out, at, b" 1");
+    }
+    text(out, at, b" 0")
+}
+
+// As many hexadecimal digits as the width says.
+pub(crate) fn bits(out: &mut [u8], at: usize, n: u64, width: usize) -> usize {
+    let mut digits = [0u8; 16];
+    let k = io::hex(n, width, &mut digits);
+    field(out, at, &digits[..k])
+}
+
+// The last hexadecimal digit.
+fn glyph(x: u8) -> u8 {
+    let d = x % 16;
+    if d < 10 { 48 + d } else { 87 + d }
+}
+
+// Two hexadecimal digits for each byte, at the front of `out`.
+fn encode(s: &[u8], out: &mut [u8])
+    requires { ⌜ 2 * length (now s) ≤ length (now out) ⌝ }
+{
+    let mut i = 0;
+    while i < s.len() {
+        out[2 * i] = glyph(s[i] / 16);
+        out[2 * i + 1] = glyph(s[i]);
+        i += 1;
+    }
+}
+
+// The first `size` of the bytes as HEX.
+pub(crate) fn hex(out: &mut [u8], at: usize, bytes: &[u8], size: usize) -> usize {
+    if size == 0 {
+        return text(out, at, b" -");
+    }
+    if bytes.len() < size {
+        return at;
+    }
+    let first = text(out, at, b" ");
+    if out.len() < first {
+        return at;
+    }
+    if (out.len() - first) / 2 < size {
+        return at;
+    }
+    encode(&bytes[0..size], &mut out[first..]);
+    first + 2 * size
+}
