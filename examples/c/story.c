@@ -117,7 +117,7 @@ static int figures(struct bizhgemu_queue *q)
 		(int)f.packets_lost, (double)f.loss, (double)f.jitter / 1e6);
 	printf("repairs in time %d, redundant %d, too late %d, round trip %.3f ms\n", (int)r.packets_received_in_time,
 		(int)r.packets_received_redundant, (int)r.packets_received_too_late, (double)r.rtt / 1e6);
-	printf("highest %d\n", (int)(h.number % 65536)); /* the 16 bits that were sent */
+	printf("highest %d\n", (int)h.number);
 	return f.refusal || r.refusal || h.refusal;
 }
 
