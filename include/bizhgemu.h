@@ -96,7 +96,8 @@ struct bizhgemu_config {
 	/* Durations in nanoseconds, each at most 60,000,000,000. */
 	uint64_t delay;                     /* sorted: from when a packet was due, by its timestamp, to its hand-out */
 	uint64_t initial_nack_delay;        /* from the detection of a gap to its first NACK */
-	uint64_t default_nack_resend_delay; /* from one NACK to the next while no round trip was measured */
+	uint64_t default_nack_resend_delay; /* from one NACK to the next while no round trip was measured; after that it is the
+	                                     * round trip's own, at least a millisecond */
 	uint64_t nack_window;               /* has no effect, as in the original queue */
 	/* Sizes: they set the lengths of the storage. */
 	size_t max_entries;                 /* depth D: packets kept, 1 to 1,024 */
@@ -298,7 +299,8 @@ struct bizhgemu_timeout bizhgemu_timeout_nack(struct bizhgemu_session session, B
 /* The figures of repairs. Refused under 16. */
 struct bizhgemu_rtx_stats bizhgemu_rtx_stats(struct bizhgemu_session session, BIZHGEMU_STORAGE);
 
-/* The extended number of the media packet with the highest number; none before the first. Refused under 16. */
+/* The extended number of the media packet with the highest number; none before the first. The first packet is in cycle 1: its
+ * extended number is its own and 65,536. Refused under 16. */
 struct bizhgemu_highest bizhgemu_highest_sequence_number_received(struct bizhgemu_session session, BIZHGEMU_STORAGE);
 
 /* The figures a box shows. Refused under 16 where the session is not sound; storage and `entries`, `gaps`, `remembered` are

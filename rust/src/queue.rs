@@ -284,7 +284,8 @@ impl Queue {
         }))
     }
 
-    /// The extended number of the media packet with the highest number; none before the first.
+    /// The extended number of the media packet with the highest number; none before the first. The first packet is in cycle 1: its
+    /// extended number is its own and 65,536.
     ///
     /// # Errors
     ///
