@@ -13,8 +13,10 @@
  * The caller owes what C cannot check:
  *  - Each pointer is aligned as its type asks, is not NULL, and names live memory of as many ELEMENTS as the length beside it
  *    says; no two of them overlap.
- *  - Each call gets the session and the storage that the call before it left. Damage is refused under 16, but not every
- *    exchange is seen: an older copy of a session beside newer storage may be accepted.
+ *  - Each call gets the session and the storage that the call before it left. Damage that row 16 lists (docs/USING.md, "Refusals
+ *    in the field") is refused under 16; no other is seen. Not seen are another payload byte, a timestamp or counter within its
+ *    range, and a count that is too low: such a call is accepted, and the places beyond the count are cleared. An older copy of a
+ *    session beside newer storage may be accepted too.
  *  - Calls on one session come one at a time. Different sessions, each with storage of its own, may be used from different
  *    threads at once. The calls that only read write to the lent storage too; `bizhgemu_figures` alone touches none.
  *  - Floats are rounded to nearest, and subnormal ones are kept, as programs usually start. Another rounding can leave a
@@ -78,7 +80,7 @@ enum bizhgemu_refusal {
 	BIZHGEMU_REFUSED_ENTRIES_FULL = 13,       /* repair with 2 * max_entries packets waiting */
 	BIZHGEMU_REFUSED_COUNT = 14,              /* a number, timestamp or counter would pass 2^52 - 1, or a NACK count 2^32 - 1 */
 	BIZHGEMU_REFUSED_OUTPUT = 15,             /* lent output under 320 bytes, or under max_gaps numbers */
-	BIZHGEMU_REFUSED_SESSION = 16             /* session or storage damaged, or not of these settings */
+	BIZHGEMU_REFUSED_SESSION = 16             /* session or storage that no call leaves, as far as row 16 sees it, or not of these settings */
 };
 
 /* `mode` of the settings. */
@@ -303,8 +305,8 @@ struct bizhgemu_rtx_stats bizhgemu_rtx_stats(struct bizhgemu_session session, BI
  * extended number is its own and 65,536. Refused under 16. */
 struct bizhgemu_highest bizhgemu_highest_sequence_number_received(struct bizhgemu_session session, BIZHGEMU_STORAGE);
 
-/* The figures a box shows. Refused under 16 where the session is not sound; storage and `entries`, `gaps`, `remembered` are
- * not looked at. */
+/* The figures a box shows. Refused under 16 where the session is not sound. Storage is not lent, and `entries`, `gaps` and
+ * `remembered`, which say how much of it is in use, are not looked at: no figure is made of them. */
 struct bizhgemu_figures bizhgemu_figures(struct bizhgemu_session session);
 
 /* The settings that most voice wants, as the Rust crate's default: sorted, 100 ms, 8,000 Hz, no repairs. Set payload type and SSRC,
