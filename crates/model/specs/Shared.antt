@@ -14,16 +14,23 @@ use Rattle.model.specs.Lists.{following, keep, every?}
 use Rattle.model.specs.Records.{Gap, Remembered, gapNumbers}
 use Rattle.model.specs.Rules.{placeOf, gapsAfter, givenUpIn, notGivenUpIn, lostBelow, leftFrom, once, remember, rememberedAfter}
 
+-- 01's numbers, said again: Rules.antt has its own
+abbrev pub LONGEST-STEP : ℕ
+LONGEST-STEP = 1000
+
+abbrev pub MOST-REMEMBERED : ℕ
+MOST-REMEMBERED = 1024
+
 -- the gaps after a media packet s above the highest number h
 abbrev pub stepped : (now h s : ℕ) → List Gap → List Gap
 stepped now h s l = gapsAfter now (h + s) (placeOf (Some h) l (h + s)) l
 
 pub record SharedRules : Type 0 where
   -- "A forward step s of at most 1,000 opens s − 1 gaps": 999 at 1,000
-  pub opens : (now h s : ℕ) (l : List Gap) → 1 ≤ s → s ≤ 1000 → gapNumbers (stepped now h s l) ≡ gapNumbers l ++ following (suc h) (s - 1)
-  pub opens-999 : (now h : ℕ) (l : List Gap) → length (stepped now h 1000 l) ≡ length l + 999
+  pub opens : (now h s : ℕ) (l : List Gap) → 1 ≤ s → s ≤ LONGEST-STEP → gapNumbers (stepped now h s l) ≡ gapNumbers l ++ following (suc h) (s - 1)
+  pub so-many : (now h s : ℕ) (l : List Gap) → 1 ≤ s → s ≤ LONGEST-STEP → length (stepped now h s l) ≡ length l + (s - 1)
   -- "a larger one clears every gap and opens none": from 1,001 on
-  pub clears : (now h s : ℕ) (l : List Gap) → 1001 ≤ s → stepped now h s l ≡ []
+  pub clears : (now h s : ℕ) (l : List Gap) → LONGEST-STEP < s → stepped now h s l ≡ []
   -- "Gaps below the one handed out become lost", those below w and no other, in sorted mode alone
   pub lost-below : (w : ℕ) (l : List Gap) → T (every? (λ (g : Gap). ltb (g .number) w) (lostBelow SortedQueue w l))
   pub left-from : (w : ℕ) (l : List Gap) → T (every? (λ (g : Gap). leb w (g .number)) (leftFrom SortedQueue w l))
@@ -34,6 +41,6 @@ pub record SharedRules : Type 0 where
   pub in-two : (set : Settings) (l : List Gap) → givenUpIn Passthrough set l ++ notGivenUpIn Passthrough set l ≡ l
   pub none-given-up : (set : Settings) (l : List Gap) → (givenUpIn SortedQueue set l ≡ []) × (notGivenUpIn SortedQueue set l ≡ l)
   -- "up to 1,024 lost numbers NACKed just once are remembered": each, while there is room, and never more
-  pub remembered : (rtx : Bool) (lost : List Gap) (l : List Remembered) → length l ≤ 1024 → length (rememberedAfter rtx lost l) ≤ 1024
-  pub all-remembered : (lost : List Gap) (l : List Remembered) → length l + length (keep once lost) ≤ 1024
+  pub remembered : (rtx : Bool) (lost : List Gap) (l : List Remembered) → length l ≤ MOST-REMEMBERED → length (rememberedAfter rtx lost l) ≤ MOST-REMEMBERED
+  pub all-remembered : (lost : List Gap) (l : List Remembered) → length l + length (keep once lost) ≤ MOST-REMEMBERED
       → rememberedAfter true lost l ≡ l ++ map remember (keep once lost)

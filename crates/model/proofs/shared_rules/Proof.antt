@@ -12,8 +12,8 @@ use Rattle.config.specs.declared.RtpInboundQueueMode.the-variants.{Passthrough,
 use Rattle.config.specs.declared.Settings.{Settings}
 use Rattle.model.specs.Lists.{following, keep, leading, trailing, every?}
 use Rattle.model.specs.Records.{Gap, Remembered, gapNumbers}
-use Rattle.model.specs.Rules.{placeOf, gapsAfter, near, far, between, fresh, below, gapsBelow, gapsFrom, tried, once, remember, latest, rememberedAfter, givenUpIn, notGivenUpIn, lostBelow, leftFrom}
-use Rattle.model.specs.Shared.{SharedRules, stepped}
+use Rattle.model.specs.Rules.{MAX-GAP-SIZE, MAX-LOST-NACKED, placeOf, gapsAfter, near, far, between, fresh, below, gapsBelow, gapsFrom, tried, once, remember, latest, rememberedAfter, givenUpIn, notGivenUpIn, lostBelow, leftFrom}
+use Rattle.model.specs.Shared.{LONGEST-STEP, MOST-REMEMBERED, SharedRules, stepped}
 use Rattle.model.proofs.Lists.{each-kept, every-of-each, length-following}
 use Rattle.model.proofs.shared_rules.Statement.{statement}
 use Rattle.model.proofs.shared_rules.Tie as tie
@@ -21,20 +21,20 @@ use Rattle.model.proofs.shared_rules.Tie as tie
 -- ---- a step
 
 module _ (h s : ℕ) (l : List Gap) where
-  at-near : 1 ≤ s → s ≤ 1000 → placeOf (Some h) l (h + s) ≡ near h
+  at-near : 1 ≤ s → s ≤ LONGEST-STEP → placeOf (Some h) l (h + s) ≡ near h
   unfolding placeOf
-  at-near some few = rw (lt-ltb h (h + s) (omega arith), le-leb (h + s - h) 1000 (omega arith))
+  at-near some few = rw (lt-ltb h (h + s) (omega arith), le-leb (h + s - h) MAX-GAP-SIZE (omega arith))
 
-  at-far : 1001 ≤ s → placeOf (Some h) l (h + s) ≡ far h
+  at-far : LONGEST-STEP < s → placeOf (Some h) l (h + s) ≡ far h
   unfolding placeOf
-  at-far many = rw (lt-ltb h (h + s) (omega arith), lt-leb (h + s - h) 1000 (omega arith))
+  at-far many = rw (lt-ltb h (h + s) (omega arith), lt-leb (h + s - h) MAX-GAP-SIZE (omega arith))
 
 numbers-fresh : (now : ℕ) (l : List ℕ) → gapNumbers (map (fresh now) l) ≡ l
 unfolding fresh
 numbers-fresh now [] = refl
 numbers-fresh now (x ∷ xs) = ap (λ (k : List ℕ). x ∷ k) (numbers-fresh now xs)
 
-opens : (now h s : ℕ) (l : List Gap) → 1 ≤ s → s ≤ 1000 → gapNumbers (stepped now h s l) ≡ gapNumbers l ++ following (suc h) (s - 1)
+opens : (now h s : ℕ) (l : List Gap) → 1 ≤ s → s ≤ LONGEST-STEP → gapNumbers (stepped now h s l) ≡ gapNumbers l ++ following (suc h) (s - 1)
 unfolding gapsAfter between
 opens now h s l some few =
     let size : h + s - suc h ≡ s - 1 = omega arith in
@@ -44,12 +44,14 @@ length-map : {A B : Type 0} (f : A → B) (l : List A) → length (map f l) ≡ 
 length-map f [] = refl
 length-map f (x ∷ xs) = ap suc (length-map f xs)
 
-opens-999 : (now h : ℕ) (l : List Gap) → length (stepped now h 1000 l) ≡ length l + 999
-opens-999 now h l =
-    let e = opens now h 1000 l (omega arith) (omega arith) in
-    sym (length-map _ (stepped now h 1000 l)) ∙ ap length e ∙ length-append (gapNumbers l) (following (suc h) 999) ∙ rw (length-following (suc h) 999) (ap (λ (k : ℕ). k + 999) (length-map _ l))
+so-many : (now h s : ℕ) (l : List Gap) → 1 ≤ s → s ≤ LONGEST-STEP → length (stepped now h s l) ≡ length l + (s - 1)
+so-many now h s l some few =
+    sym (length-map _ (stepped now h s l))
+    ∙ ap length (opens now h s l some few)
+    ∙ length-append (gapNumbers l) (following (suc h) (s - 1))
+    ∙ rw (length-following (suc h) (s - 1)) (ap (λ (k : ℕ). k + (s - 1)) (length-map _ l))
 
-clears : (now h s : ℕ) (l : List Gap) → 1001 ≤ s → stepped now h s l ≡ []
+clears : (now h s : ℕ) (l : List Gap) → LONGEST-STEP < s → stepped now h s l ≡ []
 unfolding gapsAfter
 clears now h s l many = rw (at-far h s l many)
 
@@ -101,24 +103,24 @@ first-left set l g gs e = leb-false (set .«max_nack_attempts») (g .nacks) (fir
 
 -- ---- numbers remembered
 
-remembered : (rtx : Bool) (lost : List Gap) (l : List Remembered) → length l ≤ 1024 → length (rememberedAfter rtx lost l) ≤ 1024
+remembered : (rtx : Bool) (lost : List Gap) (l : List Remembered) → length l ≤ MOST-REMEMBERED → length (rememberedAfter rtx lost l) ≤ MOST-REMEMBERED
 unfolding rememberedAfter latest
 remembered false lost l h = h
-remembered true lost l h = let k = l ++ map remember (keep once lost) in omega (arith, length-drop (length k - 1024) k)
+remembered true lost l h = let k = l ++ map remember (keep once lost) in omega (arith, length-drop (length k - MAX-LOST-NACKED) k)
 
-all-remembered : (lost : List Gap) (l : List Remembered) → length l + length (keep once lost) ≤ 1024
+all-remembered : (lost : List Gap) (l : List Remembered) → length l + length (keep once lost) ≤ MOST-REMEMBERED
     → rememberedAfter true lost l ≡ l ++ map remember (keep once lost)
 unfolding rememberedAfter latest
 all-remembered lost l h =
     let k = l ++ map remember (keep once lost) in
-    let none : length k - 1024 ≡ 0 = omega (arith, length-append l (map remember (keep once lost)), length-map remember (keep once lost)) in
+    let none : length k - MAX-LOST-NACKED ≡ 0 = omega (arith, length-append l (map remember (keep once lost)), length-map remember (keep once lost)) in
     rw none
 
 shared-rules : SharedRules
 unfolding lostBelow leftFrom givenUpIn notGivenUpIn
 shared-rules = record {
   opens = opens;
-  opens-999 = opens-999;
+  so-many = so-many;
   clears = clears;
   lost-below = lost-below;
   left-from = left-from;
