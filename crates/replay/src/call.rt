@@ -182,10 +182,11 @@ fn read_fields(word: Word, line: &[u8], at: usize, bytes: &mut [u8]) -> Call {
             OptDatagram::Some(d) => with_datagram(word, d),
             OptDatagram::None => Call::Unreadable,
         },
-        Word::Poll | Word::PollNack | Word::TimeoutReceive | Word::TimeoutNack => match field::last_number(line, at) {
-            Opt::Some(now) => with_now(word, now),
-            Opt::None => Call::Unreadable,
-        },
+        Word::Poll | Word::PollNack | Word::TimeoutReceive | Word::TimeoutNack =>
+            match field::last_number(line, at) {
+                Opt::Some(now) => with_now(word, now),
+                Opt::None => Call::Unreadable,
+            },
         _ => {
             if at < line.len() {
                 return Call::Unreadable;

@@ -193,12 +193,28 @@ fn on_session(
 ) -> Made {
     match call {
         SessionCall::Media(d) => {
-            let done = push::push(s, entries, payloads, gaps, remembered, d.now, datagram(bytes, d.size));
+            let done = push::push(
+                s,
+                entries,
+                payloads,
+                gaps,
+                remembered,
+                d.now,
+                datagram(bytes, d.size),
+            );
             let answer = done.answer;
             keep(done.session, Answer::Media(answer))
         }
         SessionCall::Repair(d) => {
-            let done = push::rtx::push_rtx(s, entries, payloads, gaps, remembered, d.now, datagram(bytes, d.size));
+            let done = push::rtx::push_rtx(
+                s,
+                entries,
+                payloads,
+                gaps,
+                remembered,
+                d.now,
+                datagram(bytes, d.size),
+            );
             let answer = done.answer;
             keep(done.session, Answer::Repair(answer))
         }
@@ -225,7 +241,13 @@ fn on_session(
             keep(s, Answer::RtxStats(answer))
         }
         SessionCall::Highest => {
-            let answer = reading::highest_sequence_number_received(s, entries, payloads, gaps, remembered);
+            let answer = reading::highest_sequence_number_received(
+                s,
+                entries,
+                payloads,
+                gaps,
+                remembered,
+            );
             keep(s, Answer::Highest(answer))
         }
         SessionCall::State => keep(s, Answer::State(s)),

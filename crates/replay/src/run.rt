@@ -63,7 +63,17 @@ fn step(
     let held = made.held;
     let answer = made.answer;
     let at = output::room(out, filled);
-    let to = answer::write(out, at, answer, bytes, numbers, entries, payloads, gaps, remembered);
+    let to = answer::write(
+        out,
+        at,
+        answer,
+        bytes,
+        numbers,
+        entries,
+        payloads,
+        gaps,
+        remembered,
+    );
     Answered { held, at: to }
 }
 
@@ -90,7 +100,18 @@ pub(crate) fn run(
         input = input.next(block, line);
         if input.whole {
             let call = call::read(line, input.n, bytes);
-            let answered = step(held, entries, payloads, gaps, remembered, call, bytes, numbers, out, at);
+            let answered = step(
+                held,
+                entries,
+                payloads,
+                gaps,
+                remembered,
+                call,
+                bytes,
+                numbers,
+                out,
+                at,
+            );
             let after = answered.held;
             held = after;
             at = answered.at;

@@ -167,7 +167,14 @@ enum List {
     Remembered,
 }
 
-fn record(out: &mut [u8], at: usize, list: List, words: &[u64], payloads: &[u8], i: usize) -> usize {
+fn record(
+    out: &mut [u8],
+    at: usize,
+    list: List,
+    words: &[u64],
+    payloads: &[u8],
+    i: usize,
+) -> usize {
     match list {
         List::Entries => entry(out, at, words, payloads, i),
         List::Gaps => gap(out, at, words, i),
@@ -176,7 +183,14 @@ fn record(out: &mut [u8], at: usize, list: List, words: &[u64], payloads: &[u8],
 }
 
 // The first n records of a list.
-fn records(out: &mut [u8], at: usize, list: List, words: &[u64], payloads: &[u8], n: usize) -> usize {
+fn records(
+    out: &mut [u8],
+    at: usize,
+    list: List,
+    words: &[u64],
+    payloads: &[u8],
+    n: usize,
+) -> usize {
     let mut to = at;
     let mut i = 0;
     while i < n {
