@@ -1,7 +1,5 @@
-// An answer written as docs/TRACE.md has it ("Calls").
+// Answers as docs/TRACE.md has them ("Calls"), put into a lent output from a place on; each function answers the place behind its line.
 use crate::put;
-use crate::state;
-use model::Session;
 use poll::HandedOut;
 use poll::PollAnswer;
 use poll::nack::NackAnswer;
@@ -14,56 +12,74 @@ use rtp::opt::Opt;
 use stats::OptRtxStats;
 use stats::RtpInboundRtxStats;
 
-// What a line is answered by. The payload of a packet, the numbers of a NACK and the lists of a session stand beside it.
-pub enum Answer {
-    PassedOver,
-    Unreadable,
-    NoSession,
-    Opened,
-    Refused(u64),
-    Media(MediaAnswer),
-    Repair(RepairAnswer),
-    Poll(PollAnswer),
-    PollNack(NackAnswer),
-    Timeout(TimeoutAnswer),
-    RtxStats(StatsAnswer),
-    Highest(HighestAnswer),
-    State(Session),
+pub(crate) fn unreadable(out: &mut [u8], at: usize) -> usize {
+    put::text(out, at, b"unreadable\n")
 }
 
-fn number_line(out: &mut [u8], at: usize, word: &[u8], n: u64) -> usize {
-    let a = put::text(out, at, word);
-    let b = put::number(out, a, n);
-    put::text(out, b, b"\n")
+pub(crate) fn no_session(out: &mut [u8], at: usize) -> usize {
+    put::text(out, at, b"no session\n")
 }
 
-fn refused(out: &mut [u8], at: usize, number: u64) -> usize {
-    number_line(out, at, b"refused", number)
+pub(crate) fn opened(out: &mut [u8], at: usize) -> usize {
+    put::text(out, at, b"opened\n")
 }
 
-fn media(out: &mut [u8], at: usize, answer: MediaAnswer) -> usize {
+pub(crate) fn refused(out: &mut [u8], at: usize, number: u64) -> usize {
+    put::line(out, at, b"refused", number)
+}
+
+fn nothing(out: &mut [u8], at: usize) -> usize {
+    put::text(out, at, b"nothing\n")
+}
+
+fn none(out: &mut [u8], at: usize) -> usize {
+    put::text(out, at, b"none\n")
+}
+
+fn queued(out: &mut [u8], at: usize) -> usize {
+    put::text(out, at, b"queued\n")
+}
+
+fn dropped(out: &mut [u8], at: usize) -> usize {
+    put::text(out, at, b"dropped\n")
+}
+
+pub(crate) fn media(out: &mut [u8], at: usize, answer: MediaAnswer) -> usize {
     match answer {
-        MediaAnswer::Queued => put::text(out, at, b"queued\n"),
-        MediaAnswer::Dropped => put::text(out, at, b"dropped\n"),
+        MediaAnswer::Queued => queued(out, at),
+        MediaAnswer::Dropped => dropped(out, at),
         MediaAnswer::Refused(number) => refused(out, at, number),
     }
 }
 
-fn repair(out: &mut [u8], at: usize, answer: RepairAnswer) -> usize {
+fn recovered(out: &mut [u8], at: usize) -> usize {
+    put::text(out, at, b"recovered\n")
+}
+
+fn redundant(out: &mut [u8], at: usize) -> usize {
+    put::text(out, at, b"redundant\n")
+}
+
+fn too_late(out: &mut [u8], at: usize) -> usize {
+    put::text(out, at, b"too late\n")
+}
+
+pub(crate) fn repair(out: &mut [u8], at: usize, answer: RepairAnswer) -> usize {
     match answer {
-        RepairAnswer::Recovered => put::text(out, at, b"recovered\n"),
-        RepairAnswer::Redundant => put::text(out, at, b"redundant\n"),
-        RepairAnswer::TooLate => put::text(out, at, b"too late\n"),
+        RepairAnswer::Recovered => recovered(out, at),
+        RepairAnswer::Redundant => redundant(out, at),
+        RepairAnswer::TooLate => too_late(out, at),
         RepairAnswer::Refused(number) => refused(out, at, number),
     }
 }
 
 fn header(out: &mut [u8], at: usize, p: HandedOut) -> usize {
-    let a = put::number(out, at, p.pt as u64);
-    let b = put::number(out, a, p.sequence_number.0 as u64);
-    let c = put::number(out, b, p.timestamp.0 as u64);
-    let d = put::number(out, c, p.ssrc.0 as u64);
-    put::flag(out, d, p.marker)
+    let pt = p.pt as u64;
+    let number = p.sequence_number.0 as u64;
+    let timestamp = p.timestamp.0 as u64;
+    let ssrc = p.ssrc.0 as u64;
+    let a = put::four(out, at, pt, number, timestamp, ssrc);
+    put::flag(out, a, p.marker)
 }
 
 fn packet(out: &mut [u8], at: usize, p: HandedOut, payload: &[u8]) -> usize {
@@ -73,12 +89,12 @@ fn packet(out: &mut [u8], at: usize, p: HandedOut, payload: &[u8]) -> usize {
     let c = put::opt(out, b, arrival);
     let d = put::number(out, c, p.delay);
     let e = put::hex(out, d, payload, p.size);
-    put::text(out, e, b"\n")
+    put::end(out, e)
 }
 
-fn poll(out: &mut [u8], at: usize, answer: PollAnswer, payload: &[u8]) -> usize {
+pub(crate) fn poll(out: &mut [u8], at: usize, answer: PollAnswer, payload: &[u8]) -> usize {
     match answer {
-        PollAnswer::Nothing => put::text(out, at, b"nothing\n"),
+        PollAnswer::Nothing => nothing(out, at),
         PollAnswer::Packet(p) => packet(out, at, p, payload),
         PollAnswer::Refused(number) => refused(out, at, number),
     }
@@ -89,35 +105,41 @@ fn wide(x: u16) -> u64 {
 }
 
 // The first `count` numbers.
-fn nack(out: &mut [u8], at: usize, numbers: &[u16], count: usize) -> usize {
-    let mut to = put::text(out, at, b"nack");
-    if numbers.len() < count {
-        return to;
-    }
+fn numbers(out: &mut [u8], at: usize, list: &[u16], count: usize) -> usize {
+    let mut to = at;
     let mut i = 0;
     while i < count {
-        to = put::number(out, to, wide(numbers[i]));
+        if list.len() <= i {
+            return to;
+        }
+        to = put::number(out, to, wide(list[i]));
         i += 1;
     }
-    put::text(out, to, b"\n")
+    to
 }
 
-fn poll_nack(out: &mut [u8], at: usize, answer: NackAnswer, numbers: &[u16]) -> usize {
+fn nack(out: &mut [u8], at: usize, list: &[u16], count: usize) -> usize {
+    let a = put::text(out, at, b"nack");
+    let b = numbers(out, a, list, count);
+    put::end(out, b)
+}
+
+pub(crate) fn poll_nack(out: &mut [u8], at: usize, answer: NackAnswer, list: &[u16]) -> usize {
     match answer {
-        NackAnswer::Nothing => put::text(out, at, b"nothing\n"),
-        NackAnswer::Numbers(count) => nack(out, at, numbers, count),
+        NackAnswer::Nothing => nothing(out, at),
+        NackAnswer::Numbers(count) => nack(out, at, list, count),
         NackAnswer::Refused(number) => refused(out, at, number),
     }
 }
 
 fn after(out: &mut [u8], at: usize, o: Opt) -> usize {
     match o {
-        Opt::None => put::text(out, at, b"none\n"),
-        Opt::Some(n) => number_line(out, at, b"after", n),
+        Opt::None => none(out, at),
+        Opt::Some(n) => put::line(out, at, b"after", n),
     }
 }
 
-fn timeout(out: &mut [u8], at: usize, answer: TimeoutAnswer) -> usize {
+pub(crate) fn timeout(out: &mut [u8], at: usize, answer: TimeoutAnswer) -> usize {
     match answer {
         TimeoutAnswer::Timeout(o) => after(out, at, o),
         TimeoutAnswer::Refused(number) => refused(out, at, number),
@@ -126,61 +148,33 @@ fn timeout(out: &mut [u8], at: usize, answer: TimeoutAnswer) -> usize {
 
 fn figures(out: &mut [u8], at: usize, s: RtpInboundRtxStats) -> usize {
     let rtt = s.rtt;
+    let in_time = s.packets_received_in_time;
+    let too_late = s.packets_received_too_late;
+    let redundant = s.packets_received_redundant;
     let a = put::text(out, at, b"rtx");
-    let b = put::number(out, a, s.packets_received_in_time);
-    let c = put::number(out, b, s.packets_received_too_late);
-    let d = put::number(out, c, s.packets_received_redundant);
-    let e = put::number(out, d, s.bytes_received);
-    let f = put::opt(out, e, rtt);
-    put::text(out, f, b"\n")
+    let b = put::four(out, a, in_time, too_late, redundant, s.bytes_received);
+    let c = put::opt(out, b, rtt);
+    put::end(out, c)
 }
 
 fn opt_figures(out: &mut [u8], at: usize, o: OptRtxStats) -> usize {
     match o {
-        OptRtxStats::None => put::text(out, at, b"none\n"),
+        OptRtxStats::None => none(out, at),
         OptRtxStats::Some(s) => figures(out, at, s),
     }
 }
 
-fn rtx_stats(out: &mut [u8], at: usize, answer: StatsAnswer) -> usize {
+pub(crate) fn rtx_stats(out: &mut [u8], at: usize, answer: StatsAnswer) -> usize {
     match answer {
         StatsAnswer::Stats(o) => opt_figures(out, at, o),
         StatsAnswer::Refused(number) => refused(out, at, number),
     }
 }
 
-fn highest(out: &mut [u8], at: usize, answer: HighestAnswer) -> usize {
+pub(crate) fn highest(out: &mut [u8], at: usize, answer: HighestAnswer) -> usize {
     match answer {
-        HighestAnswer::None => put::text(out, at, b"none\n"),
-        HighestAnswer::Number(n) => number_line(out, at, b"highest", n.0),
+        HighestAnswer::None => none(out, at),
+        HighestAnswer::Number(n) => put::line(out, at, b"highest", n.0),
         HighestAnswer::Refused(number) => refused(out, at, number),
-    }
-}
-
-pub(crate) fn write(
-    out: &mut [u8],
-    at: usize,
-    answer: Answer,
-    payload: &[u8],
-    numbers: &[u16],
-    entries: &[u64],
-    payloads: &[u8],
-    gaps: &[u64],
-    remembered: &[u64],
-) -> usize {
-    match answer {
-        Answer::PassedOver => at,
-        Answer::Unreadable => put::text(out, at, b"unreadable\n"),
-        Answer::NoSession => put::text(out, at, b"no session\n"),
-        Answer::Opened => put::text(out, at, b"opened\n"),
-        Answer::Refused(number) => refused(out, at, number),
-        Answer::Media(a) => media(out, at, a),
-        Answer::Repair(a) => repair(out, at, a),
-        Answer::Poll(a) => poll(out, at, a, payload),
-        Answer::PollNack(a) => poll_nack(out, at, a, numbers),
-        Answer::Timeout(a) => timeout(out, at, a),
-        Answer::RtxStats(a) => rtx_stats(out, at, a),
-        Answer::Highest(a) => highest(out, at, a),
-        Answer::State(s) => state::write(out, at, s, entries, payloads, gaps, remembered),
     }
 }

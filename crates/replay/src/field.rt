@@ -1,6 +1,8 @@
 // Fields of a line (docs/TRACE.md, "Lines"). A field begins behind the blank at a place, and ends before the next blank or with the line.
 ghost use Prim.Native.Nat.{_≤_};
 ghost use lib.ListN.{length};
+use crate::call::FIELDS;
+use crate::call::Fields;
 use rtp::opt::Opt;
 
 // A number, and the place behind its field.
@@ -9,7 +11,7 @@ pub enum Found {
     Number(u64, usize),
 }
 
-// How many bytes a HEX field has.
+// A place, or how many bytes there are.
 pub enum OptSize {
     None,
     Some(usize),
@@ -24,7 +26,7 @@ pub(crate) fn end(line: &[u8], from: usize) -> usize
 }
 
 // The number whose field begins behind the blank at `at`.
-pub(crate) fn number(line: &[u8], at: usize) -> Found {
+fn number(line: &[u8], at: usize) -> Found {
     if line.len() <= at {
         return Found::None;
     }
@@ -36,30 +38,22 @@ pub(crate) fn number(line: &[u8], at: usize) -> Found {
     Found::Number(n, to)
 }
 
-// The number that is the last field.
-pub(crate) fn last_number(line: &[u8], at: usize) -> Opt {
-    let Found::Number(n, to) = number(line, at) else {
-        return Opt::None;
-    };
-    if to < line.len() {
-        return Opt::None;
-    }
-    Opt::Some(n)
-}
-
-// Whether the fields are as many numbers as there are places: they are put there.
-pub(crate) fn are_numbers(line: &[u8], at: usize, values: &mut [u64]) -> bool {
+// So many numbers, put into the places. The place behind them.
+pub(crate) fn numbers(line: &[u8], at: usize, places: &mut Fields, count: usize) -> OptSize {
     let mut from = at;
     let mut i = 0;
-    while i < values.len() {
+    while i < count {
         let Found::Number(n, to) = number(line, from) else {
-            return false;
+            return OptSize::None;
         };
-        values[i] = n;
+        if FIELDS <= i {
+            return OptSize::None;
+        }
+        places[i] = n;
         from = to;
         i += 1;
     }
-    from == line.len()
+    OptSize::Some(from)
 }
 
 // The value of a hexadecimal digit, or 16.

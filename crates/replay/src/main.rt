@@ -23,6 +23,7 @@ fn main() {
     let mut remembered = [0u64; make::REMEMBERED];
     let mut block = io::large_buffer();
     let mut line = [0u8; input::LINE];
+    let mut fields = [0u64; call::FIELDS];
     let mut bytes = [0u8; call::BYTES];
     let mut numbers = [0u16; make::NUMBERS];
     let mut out = io::large_buffer();
@@ -33,6 +34,7 @@ fn main() {
         &mut remembered,
         &mut block,
         &mut line,
+        &mut fields,
         &mut bytes,
         &mut numbers,
         &mut out,

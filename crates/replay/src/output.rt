@@ -1,4 +1,5 @@
 // Answers are gathered in a lent buffer, of which `at` bytes are filled, and written in blocks.
+use crate::input::Input;
 use config::MAX_GAPS;
 use libc::STDOUT_FILENO;
 
@@ -6,7 +7,7 @@ use libc::STDOUT_FILENO;
 const ROOM: usize = 4 + 6 * MAX_GAPS + 1;
 
 // Writes what is gathered; the place to go on at.
-pub(crate) fn write(out: &[u8], at: usize) -> usize {
+fn write(out: &[u8], at: usize) -> usize {
     if at <= out.len() {
         io::write_all(STDOUT_FILENO, &out[0..at]);
     }
@@ -22,4 +23,12 @@ pub(crate) fn room(out: &[u8], at: usize) -> usize {
         return at;
     }
     write(out, at)
+}
+
+// Writes what is gathered where the next turn waits for input.
+pub(crate) fn before_input(out: &[u8], at: usize, input: Input) -> usize {
+    if input.waits() {
+        return write(out, at);
+    }
+    at
 }

@@ -15,6 +15,17 @@ pub(crate) fn text(out: &mut [u8], at: usize, s: &[u8]) -> usize {
     at + s.len()
 }
 
+pub(crate) fn end(out: &mut [u8], at: usize) -> usize {
+    text(out, at, b"\n")
+}
+
+// A word and a number.
+pub(crate) fn line(out: &mut [u8], at: usize, word: &[u8], n: u64) -> usize {
+    let a = text(out, at, word);
+    let b = number(out, a, n);
+    end(out, b)
+}
+
 // A field, with the blank before it.
 fn field(out: &mut [u8], at: usize, s: &[u8]) -> usize {
     let first = text(out, at, b" ");
@@ -25,6 +36,16 @@ pub(crate) fn number(out: &mut [u8], at: usize, n: u64) -> usize {
     let mut digits = [0u8; 20];
     let k = io::decimal(n, &mut digits);
     field(out, at, &digits[..k])
+}
+
+pub(crate) fn two(out: &mut [u8], at: usize, a: u64, b: u64) -> usize {
+    let second = number(out, at, a);
+    number(out, second, b)
+}
+
+pub(crate) fn four(out: &mut [u8], at: usize, a: u64, b: u64, c: u64, d: u64) -> usize {
+    let third = two(out, at, a, b);
+    two(out, third, c, d)
 }
 
 // A number that may be missing.

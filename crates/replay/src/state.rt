@@ -2,8 +2,10 @@
 use crate::output;
 use crate::put;
 use entries::ENTRY_WORDS;
+use entries::Entry;
 use entries::PAYLOAD_BYTES;
 use lost_nacked::REMEMBERED_WORDS;
+use lost_nacked::Remembered;
 use model::LastReceived;
 use model::Queue;
 use model::Session;
@@ -36,14 +38,11 @@ fn f32_bits(out: &mut [u8], at: usize, x: f32) -> usize {
 fn figures(out: &mut [u8], at: usize, q: Queue) -> usize {
     let jitter = q.jitter;
     let loss = q.loss;
-    let counters = q.counters;
+    let c = q.counters;
     let a = put::number(out, at, q.clock);
-    let b = put::number(out, a, counters.received);
-    let c = put::number(out, b, counters.bytes);
-    let d = put::number(out, c, counters.dropped);
-    let e = put::number(out, d, counters.lost);
-    let f = f64_bits(out, e, jitter.jitter);
-    f32_bits(out, f, loss.loss)
+    let b = put::four(out, a, c.received, c.bytes, c.dropped, c.lost);
+    let d = f64_bits(out, b, jitter.jitter);
+    f32_bits(out, d, loss.loss)
 }
 
 fn last_received(out: &mut [u8], at: usize, last: LastReceived) -> usize {
@@ -51,8 +50,7 @@ fn last_received(out: &mut [u8], at: usize, last: LastReceived) -> usize {
         LastReceived::None => put::text(out, at, b" - - -"),
         LastReceived::Some(r) => {
             let a = put::number(out, at, r.instant);
-            let b = put::number(out, a, r.timestamp.0);
-            put::number(out, b, r.number.0)
+            put::two(out, a, r.timestamp.0, r.number.0)
         }
     }
 }
@@ -64,49 +62,87 @@ fn last_returned(out: &mut [u8], at: usize, returned: OptNumber) -> usize {
     }
 }
 
+fn references(out: &mut [u8], at: usize, q: Queue) -> usize {
+    let last = q.last;
+    let returned = q.returned;
+    let a = last_received(out, at, last);
+    last_returned(out, a, returned)
+}
+
 fn round_trip(out: &mut [u8], at: usize, rtt: OptRtt) -> usize {
     match rtt {
         OptRtt::None => put::text(out, at, b" - -"),
-        OptRtt::Some(e) => {
-            let a = put::number(out, at, e.srtt);
-            put::number(out, a, e.variation)
-        }
+        OptRtt::Some(e) => put::two(out, at, e.srtt, e.variation),
     }
 }
 
-fn repairs(out: &mut [u8], at: usize, has_rtx: bool, x: RtxState) -> usize {
-    if has_rtx {
-        let rtt = x.rtt;
-        let a = round_trip(out, at, rtt);
-        let b = put::number(out, a, x.received_in_time);
-        let c = put::number(out, b, x.received_too_late);
-        let d = put::number(out, c, x.received_redundant);
-        return put::number(out, d, x.bytes_received);
+fn repairs(out: &mut [u8], at: usize, x: RtxState) -> usize {
+    let rtt = x.rtt;
+    let a = round_trip(out, at, rtt);
+    put::four(
+        out,
+        a,
+        x.received_in_time,
+        x.received_too_late,
+        x.received_redundant,
+        x.bytes_received,
+    )
+}
+
+fn opt_repairs(out: &mut [u8], at: usize, q: Queue) -> usize {
+    let config = q.config;
+    let senders = config.senders;
+    let rtx = q.rtx;
+    if senders.has_rtx {
+        return repairs(out, at, rtx);
     }
     put::text(out, at, b" - - - - - -")
 }
 
 fn counts(out: &mut [u8], at: usize, s: Session) -> usize {
     let a = put::number(out, at, s.entries as u64);
-    let b = put::number(out, a, s.gaps as u64);
-    put::number(out, b, s.remembered as u64)
+    put::two(out, a, s.gaps as u64, s.remembered as u64)
 }
 
 // The first line.
 fn summary(out: &mut [u8], at: usize, s: Session) -> usize {
-    let q = s.queue;
-    let config = q.config;
-    let senders = config.senders;
-    let last = q.last;
-    let returned = q.returned;
-    let rtx = q.rtx;
     let a = put::text(out, at, b"state");
-    let b = figures(out, a, q);
-    let c = last_received(out, b, last);
-    let d = last_returned(out, c, returned);
-    let e = repairs(out, d, senders.has_rtx, rtx);
-    let f = counts(out, e, s);
-    put::text(out, f, b"\n")
+    let b = figures(out, a, s.queue);
+    let c = references(out, b, s.queue);
+    let d = opt_repairs(out, c, s.queue);
+    let e = counts(out, d, s);
+    put::end(out, e)
+}
+
+fn entry_line(out: &mut [u8], at: usize, e: Entry, place: &[u8]) -> usize {
+    let arrival = e.arrival;
+    let a = put::text(out, at, b"entry");
+    let b = put::two(out, a, e.number.0, e.timestamp.0);
+    let c = put::opt(out, b, arrival);
+    let d = put::flag(out, c, e.marker);
+    let f = put::hex(out, d, place, e.size);
+    put::end(out, f)
+}
+
+fn nacked(g: Gap) -> Opt {
+    if g.nacks == 0 {
+        return Opt::None;
+    }
+    Opt::Some(g.nacked_at)
+}
+
+fn gap_line(out: &mut [u8], at: usize, g: Gap) -> usize {
+    let a = put::text(out, at, b"gap");
+    let b = put::two(out, a, g.number.0, g.detected);
+    let c = put::opt(out, b, nacked(g));
+    let d = put::number(out, c, g.nacks);
+    put::end(out, d)
+}
+
+fn remembered_line(out: &mut [u8], at: usize, r: Remembered) -> usize {
+    let a = put::text(out, at, b"remembered");
+    let b = put::two(out, a, r.number.0, r.nacked_at);
+    put::end(out, b)
 }
 
 // The record in place i of each list; none where the place is not there.
@@ -119,46 +155,22 @@ fn entry(out: &mut [u8], at: usize, words: &[u64], payloads: &[u8], i: usize) ->
         return at;
     }
     let e = entries::read(words, i);
-    let arrival = e.arrival;
     let from = PAYLOAD_BYTES * i;
-    let a = put::text(out, at, b"entry");
-    let b = put::number(out, a, e.number.0);
-    let c = put::number(out, b, e.timestamp.0);
-    let d = put::opt(out, c, arrival);
-    let f = put::flag(out, d, e.marker);
-    let g = put::hex(out, f, &payloads[from..], e.size);
-    put::text(out, g, b"\n")
-}
-
-fn nacked(g: Gap) -> Opt {
-    if g.nacks == 0 {
-        return Opt::None;
-    }
-    Opt::Some(g.nacked_at)
+    entry_line(out, at, e, &payloads[from..])
 }
 
 fn gap(out: &mut [u8], at: usize, words: &[u64], i: usize) -> usize {
     if words.len() / GAP_WORDS <= i {
         return at;
     }
-    let g = packet_gaps::read(words, i);
-    let a = put::text(out, at, b"gap");
-    let b = put::number(out, a, g.number.0);
-    let c = put::number(out, b, g.detected);
-    let d = put::opt(out, c, nacked(g));
-    let e = put::number(out, d, g.nacks);
-    put::text(out, e, b"\n")
+    gap_line(out, at, packet_gaps::read(words, i))
 }
 
-fn remembered(out: &mut [u8], at: usize, words: &[u64], i: usize) -> usize {
+fn lost(out: &mut [u8], at: usize, words: &[u64], i: usize) -> usize {
     if words.len() / REMEMBERED_WORDS <= i {
         return at;
     }
-    let r = lost_nacked::read(words, i);
-    let a = put::text(out, at, b"remembered");
-    let b = put::number(out, a, r.number.0);
-    let c = put::number(out, b, r.nacked_at);
-    put::text(out, c, b"\n")
+    remembered_line(out, at, lost_nacked::read(words, i))
 }
 
 enum List {
@@ -178,7 +190,7 @@ fn record(
     match list {
         List::Entries => entry(out, at, words, payloads, i),
         List::Gaps => gap(out, at, words, i),
-        List::Remembered => remembered(out, at, words, i),
+        List::Remembered => lost(out, at, words, i),
     }
 }
 
@@ -208,10 +220,10 @@ pub(crate) fn write(
     entries: &[u64],
     payloads: &[u8],
     gaps: &[u64],
-    lost: &[u64],
+    remembered: &[u64],
 ) -> usize {
     let a = summary(out, at, s);
     let b = records(out, a, List::Entries, entries, payloads, s.entries);
     let c = records(out, b, List::Gaps, gaps, payloads, s.gaps);
-    records(out, c, List::Remembered, lost, payloads, s.remembered)
+    records(out, c, List::Remembered, remembered, payloads, s.remembered)
 }

@@ -1,14 +1,15 @@
 -- `run` is safe and ends: the turns are counted down.
+use native.Mathlib.Omega.{arith}
 use borrow.Author.Needs.{needs}
 use Rattle.replay.proofs.run.run.Statement.{statement}
 use Rattle.replay.proofs.run.run.Tie as tie
 
 abbrev Inv-loop : tie.InvT-loop
-Inv-loop entries₀ payloads₀ gaps₀ remembered₀ block₀ line₀ bytes₀ numbers₀ out₀ input₀ held₀ at₀ turns₀ entries payloads gaps remembered block line bytes numbers out input held at turns =
+Inv-loop entries₀ payloads₀ gaps₀ remembered₀ block₀ line₀ fields₀ bytes₀ numbers₀ out₀ input₀ held₀ at₀ turns₀ entries payloads gaps remembered block line fields bytes numbers out input held at turns =
     Unit {0}
 
 abbrev μ-loop : tie.MeasureT-loop
-μ-loop entries₀ payloads₀ gaps₀ remembered₀ block₀ line₀ bytes₀ numbers₀ out₀ input₀ held₀ at₀ turns₀ entries payloads gaps remembered block line bytes numbers out input held at turns =
+μ-loop entries₀ payloads₀ gaps₀ remembered₀ block₀ line₀ fields₀ bytes₀ numbers₀ out₀ input₀ held₀ at₀ turns₀ entries payloads gaps remembered block line fields bytes numbers out input held at turns =
     turns
 
 start-requires : tie.Need-start-requires Inv-loop μ-loop
@@ -17,11 +18,11 @@ start-requires c κs = search needs
 loop-holds : tie.Need-loop-holds Inv-loop μ-loop
 loop-holds c = search needs
 
-waits-requires : tie.Need-waits-requires Inv-loop μ-loop
-waits-requires c κs = search needs
+before-input-requires : tie.Need-before-input-requires Inv-loop μ-loop
+before-input-requires c κs = search needs
 
-write-requires : tie.Need-write-requires Inv-loop μ-loop
-write-requires c κs = search needs
+returns : tie.Need-returns Inv-loop μ-loop
+returns c = search needs
 
 next-requires : tie.Need-next-requires Inv-loop μ-loop
 next-requires c κs = search needs
@@ -32,17 +33,13 @@ read-requires c κs = search needs
 step-requires : tie.Need-step-requires Inv-loop μ-loop
 step-requires c κs = search needs
 
-write-requires-2 : tie.Need-write-requires-2 Inv-loop μ-loop
-write-requires-2 c κs = search needs
-
-returns : tie.Need-returns Inv-loop μ-loop
-returns c = search needs
-
 sub-turns : tie.Need-sub-turns Inv-loop μ-loop
-sub-turns c = search needs
+sub-turns c =
+    omega (arith, c .before .before .before .before .before .before .before .before .before .before .before .before .before .before .before .before .before .before .before .before .before .before .loop-test .taken)
 
 loop-less : tie.Need-loop-less Inv-loop μ-loop
-loop-less c = search needs
+loop-less c =
+    omega (arith, c .before .before .before .before .before .before .before .before .before .before .before .before .before .before .before .before .before .before .before .before .before .before .loop-test .taken)
 
 loop-again : tie.Need-loop-again Inv-loop μ-loop
 loop-again c = search needs
@@ -58,13 +55,11 @@ run-spec =
     μ-loop
     start-requires
     loop-holds
-    waits-requires
-    write-requires
+    before-input-requires
+    returns
     next-requires
     read-requires
     step-requires
-    write-requires-2
-    returns
     sub-turns
     loop-less
     loop-again

@@ -1,2 +1,0 @@
--- What the contracts of `put` cite.
-pub mod Text

@@ -1,3 +1,0 @@
--- What the contracts of `trace` cite.
-pub mod Field
-pub mod Line
