@@ -346,17 +346,21 @@ fn after_52_days_it_goes_on() {
 }
 
 #[test]
-fn a_stream_without_a_pause_is_carried_over_the_52_days() {
-    let (mut host, mut radio) = (Host::new(Config::pcmu(7), Rules::default(), ms(0)), Radio::new(7, 1, 0));
-    host.talk(&mut radio, 1);
-    host.pass(ms(200));
-    // two seconds before the end, and packets wait all the time until two seconds after it
-    host.now = bizhgemu::LATEST - ms(2_000);
-    host.take(&radio.next());
-    host.talk(&mut radio, 200);
-    host.pass(ms(200));
-    assert_eq!(host.counts(), (0..202).collect::<Vec<_>>());
-    assert_eq!(host.reopened, [Why::Age]);
+fn what_waits_is_carried_over_the_52_days() {
+    let hour = Duration::from_secs(3_600);
+    // from just before the last hour to the end of the 52 days and past it, a packet waiting all the time
+    for jump in [hour + ms(5), hour + ms(11), 2 * hour] {
+        let (mut host, mut radio) = (Host::new(Config::pcmu(7), Rules::default(), ms(0)), Radio::new(7, 1, 0));
+        host.now = bizhgemu::LATEST - hour - ms(10);
+        assert_eq!(host.take(&radio.next()), Taken::Queued);
+        host.now += jump;
+        radio.timestamp += 8 * jump.as_millis() as u32;
+        assert_eq!(host.take(&radio.next()), Taken::Queued);
+        host.talk(&mut radio, 50);
+        host.pass(ms(200));
+        assert_eq!(host.counts(), (0..52).collect::<Vec<_>>());
+        assert_eq!(host.reopened, [Why::Age]);
+    }
 }
 
 #[test]

@@ -1,7 +1,7 @@
 mod rules;
 
 use crate::answers::{Figures, Media, Packet, Repair, RtxStats};
-use crate::config::Config;
+use crate::config::{Config, Mode};
 use crate::header::Header;
 use crate::queue::Queue;
 use crate::refusal::Refusal;
@@ -303,11 +303,32 @@ impl Receiver {
         self.tell(Event::Reopened { at: self.latest, why, ssrc: self.config.ssrc, waiting, kept: kept.len(), figures });
     }
 
-    /// What waits in a session that ends is handed out at once: at the latest instant everything is due.
+    /// What waits in a session that ends is handed out at once, due or not; nothing of a damaged one.
     fn hand_over(&mut self) -> usize {
-        let before = self.left.len();
-        while self.hand_out_at(LATEST).is_ok_and(|more| more) {}
-        self.left.len() - before
+        if self.queue.rtx_stats().is_err() {
+            return 0;
+        }
+        // the session's own settings: those of the receiver may already be the next one's
+        let config = self.queue.config();
+        let delay = if config.mode == Mode::Passthrough { Duration::ZERO } else { config.delay };
+        let waiting = self.queue.waiting().map(|waiting| {
+            let out = Out {
+                received_at: waiting.received_at.map(|received| self.start + received),
+                delay,
+                timestamp: waiting.timestamp as u32,
+                ssrc: config.ssrc,
+                sequence_number: waiting.number as u16,
+                payload_type: config.payload_type,
+                marker: waiting.marker,
+                payload: waiting.payload.to_vec(),
+                ..Out::default()
+            };
+            (waiting.number, out)
+        });
+        let waiting: Vec<(u64, Out)> = waiting.collect();
+        let many = waiting.len();
+        waiting.into_iter().for_each(|(number, out)| self.leave(number, out));
+        many
     }
 
     fn tell(&mut self, event: Event) {
@@ -490,8 +511,7 @@ impl Receiver {
             return Ok(false);
         };
         let number = front.expect("what is handed out had waited");
-        let next = self.before.map_or(number, |before| before + 1);
-        self.left.push_back(Out {
+        let out = Out {
             received_at: packet.received_at.map(|received| self.start + received),
             delay: packet.delay,
             timestamp: packet.timestamp,
@@ -500,11 +520,17 @@ impl Receiver {
             payload_type: packet.payload_type,
             marker: packet.marker,
             payload: packet.payload.to_vec(),
-            lost_before: number.saturating_sub(next),
-            session: self.tally.sessions,
-        });
-        self.before = Some(self.before.map_or(number, |before| before.max(number)));
+            ..Out::default()
+        };
+        self.leave(number, out);
         Ok(true)
+    }
+
+    /// A packet leaves the queue; what was not handed out between it and the one before it counts as lost.
+    fn leave(&mut self, number: u64, out: Out) {
+        let next = self.before.map_or(number, |before| before + 1);
+        self.left.push_back(Out { lost_before: number.saturating_sub(next), session: self.tally.sessions, ..out });
+        self.before = Some(self.before.map_or(number, |before| before.max(number)));
     }
 
     fn look_for_stall(&mut self) {

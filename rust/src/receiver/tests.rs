@@ -44,6 +44,30 @@ fn a_count_at_its_end_opens_a_new_session_and_loses_nothing() {
 }
 
 #[test]
+fn what_is_handed_over_is_as_it_would_have_been() {
+    for mode in [Mode::SortedQueue, Mode::Passthrough] {
+        let (mut polled, mut handed_over) = (Vec::new(), Vec::new());
+        for (ends, heard) in [(false, &mut polled), (true, &mut handed_over)] {
+            let config = Config { mode, ..Config::pcmu(7) };
+            let mut receiver = Receiver::open(&config, Rules::default(), ms(5)).unwrap();
+            for number in [1, 2, 5] {
+                let mut bytes = datagram(number);
+                bytes[1] |= if number == 2 { 0x80 } else { 0 };
+                receiver.take(ms(20 * u64::from(number)), &bytes);
+            }
+            if ends {
+                receiver.reopen(&Config::pcma(8), ms(101)).unwrap();
+            }
+            while let Some(next) = receiver.poll(ms(500)) {
+                heard.push((format!("{:?}", next.packet), next.lost_before, next.session));
+            }
+        }
+        assert_eq!(polled.len(), 3);
+        assert_eq!(polled, handed_over);
+    }
+}
+
+#[test]
 fn a_damaged_session_is_replaced_from_whichever_call() {
     let damages: [fn(&mut Queue); 4] = [
         |queue| queue.session.loss_bits = 0xffff_ffff,
