@@ -258,9 +258,10 @@ module _ {c : Config} {t : Storage} {ks : List Call} {now : ℕ} {d : List ℕ} 
   first-is e =
       let top : highestOf (s .queue .last) ≡ None = k .inv .same .highest ∙ ap B.highest e in
       let v = first-values (s .queue) (sequenceNumber d) (timestamp d) top in
-      let p : stood ≡ first = ap (λ (o : Opt). placeOf o (s .gaps) n) top in
-      (span-is ∙ ap (λ (q : Place). spanAfter n q (x .book .span)) p ∙ ap (λ (m : ℕ). fromTo m m) (v .0),
-      ap lastTimestampOf (last-is ∙ ap (λ (q : Place). lastAfter now (mediaEntry now d (s .queue) .timestamp) n q (s .queue .last)) p) ∙ ap Some (v .1))
+      let p : stood ≡ first = ap (λ (o : Opt). placeOf o (s .gaps) n) top in (
+        span-is ∙ ap (λ (q : Place). spanAfter n q (x .book .span)) p ∙ ap (λ (m : ℕ). fromTo m m) (v .0),
+        ap lastTimestampOf (last-is ∙ ap (λ (q : Place). lastAfter now (mediaEntry now d (s .queue) .timestamp) n q (s .queue .last)) p) ∙ ap Some (v .1),
+      )
 
   module _ (f : ℕ) (e : x .book .span ≡ fromTo f f) where
     top : highestOf (s .queue .last) ≡ Some f
