@@ -6,7 +6,10 @@ ghost use Prim.Native.Nat.{_+_, _*_, _≤_, _<_};
 ghost use lib.ListN.{length, drop};
 ghost use Rattle.words.specs.Words.{over};
 ghost use Rattle.words.specs.Blocks.{laid};
+ghost use Rattle.words.specs.Order.{ascends};
+ghost use Rattle.nack_pairs.specs.Wire.{ENTRY-BYTES, entries};
 ghost use Rattle.model.specs.Lists.{keep, leading, some?, every?};
+ghost use Rattle.model.specs.Records.{gapNumbers};
 ghost use Rattle.model.specs.Rules.{dueAt, due, nacked, nackDue, truncated, full, tried};
 ghost use Rattle.model.specs.Poll.{nackTimeout};
 ghost use Rattle.model.specs.Storage.{GAP-WORDS, gapWords, gapsOf};
@@ -98,6 +101,33 @@ pub fn poll_nacks(s: &mut [u64], n: usize, now: u64, t: NackTimings, out: &mut [
         }
     }
     count
+}
+
+// NACKs each gap that is due, writes the entries of a generic NACK that name them to the front of `out`, and says how many bytes they are.
+pub fn poll_wire(s: &mut [u64], n: usize, now: u64, t: NackTimings, out: &mut [u8]) -> usize
+    requires { ⌜ GapsIn (s .now) n ⌝ }
+    requires { ⌜ ENTRY-BYTES * n ≤ length (out .now) ⌝ }
+    requires { ⌜ every? instantsFit (gapsOf (s .now) n) ≡ true ⌝ }
+    requires { ⌜ some? full (keep (due t now) (gapsOf (s .now) n)) ≡ false ⌝ }
+    requires { ⌜ Small t ⌝ }
+    requires { ⌜ ascends (gapNumbers (gapsOf (s .now) n)) ≡ true ⌝ }
+    ensures { λ r. ⌜ r ≡ length (entries (gapNumbers (keep (due t now) (gapsOf (s .entry .now) n)))) ⌝ }
+    ensures { λ r. ⌜ s .exit .now ≡ laid gapWords (length (s .entry .now)) (nackDue t now (gapsOf (s .entry .now) n)) ⌝ }
+    ensures { λ r. ⌜ out .exit .now ≡ over (entries (gapNumbers (keep (due t now) (gapsOf (s .entry .now) n)))) (out .entry .now) ⌝ }
+{
+    let mut named = nack_pairs::none_named();
+    let mut i = 0;
+    while i < n {
+        let g = super::read(s, i);
+        if is_due(g, t, now) {
+            named = nack_pairs::name(named, g.number.0, out);
+            super::write(s, i, nack(g, now));
+            i += 1;
+        } else {
+            i += 1;
+        }
+    }
+    named.bytes
 }
 
 // The least time until a gap is due.

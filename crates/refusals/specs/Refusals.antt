@@ -1,4 +1,4 @@
--- 01, "Where a call is turned back": the numbers of the table, by the names that the code has for them, and how checks follow each other.
+-- 01, "Where a call is turned back", and 02: the numbers of the table, by the names that the code has for them, and how checks follow each other.
 use mathlib.Core.Bool.{Bool, cond}
 use mathlib.Core.List.{List, [], _∷_}
 use Prim.Native.Nat.{ℕ}
@@ -52,10 +52,13 @@ OUTPUT = 15
 abbrev pub SESSION : ℕ
 SESSION = 16
 
+abbrev pub NACK-ENTRIES : ℕ
+NACK-ENTRIES = 17
+
 -- all of them
 abbrev pub numbers : List ℕ
 numbers =
-    SETTINGS ∷ TRUNCATED ∷ VERSION ∷ PADDING ∷ PAYLOAD-TOO-LARGE ∷ PAYLOAD-TYPE ∷ SSRC ∷ CLOCK ∷ NO-RTX ∷ NO-MEDIA ∷ NO-ORIGINAL-NUMBER ∷ GAPS-FULL ∷ ENTRIES-FULL ∷ COUNT ∷ OUTPUT ∷ SESSION ∷ []
+    SETTINGS ∷ TRUNCATED ∷ VERSION ∷ PADDING ∷ PAYLOAD-TOO-LARGE ∷ PAYLOAD-TYPE ∷ SSRC ∷ CLOCK ∷ NO-RTX ∷ NO-MEDIA ∷ NO-ORIGINAL-NUMBER ∷ GAPS-FULL ∷ ENTRIES-FULL ∷ COUNT ∷ OUTPUT ∷ SESSION ∷ NACK-ENTRIES ∷ []
 
 -- a check's number, where its test is true; 0 is none
 unfoldable pub refuseIf : Bool → ℕ → ℕ

@@ -1,4 +1,5 @@
-// The numbers under which a call is refused: the table "Where a call is turned back" of document 01, each with its words there.
+// The numbers under which a call is refused: the table "Where a call is turned back" of document 01, each with its words there and those
+// that document 02 adds.
 // A refused call returns its number only; session, clock and every lent buffer are unchanged. 0 is no refusal.
 ghost use mathlib.Core.Path.{_≡_};
 ghost use Rattle.refusals.specs.Refusals.{orElse, numbers};
@@ -46,7 +47,8 @@ pub const ENTRIES_FULL: u64 = 13;
 // Counts: an extended value or counter would pass 2^52 − 1, or a NACK count 2^32 − 1.
 pub const COUNT: u64 = 14;
 
-// Output: `poll`: lent buffer under 320 bytes; `poll_nack`: list under G numbers.
+// Output: `poll`: lent buffer under 320 bytes; `poll_nack`: list under G numbers. 02, point 1: `poll_nack` on the wire: output under 4 · G
+// bytes; the reader of NACK entries: list under 17 numbers for each whole four bytes.
 pub const OUTPUT: u64 = 15;
 
 // Session: storage lengths not those of D and G; a setting that 1 refuses; more than 2 · D entries, G gaps or 1,024 remembered;
@@ -56,8 +58,11 @@ pub const OUTPUT: u64 = 15;
 // record's clock rate not the setting's, jitter not from 0 to the clock rate, loss not from 0 to 1.
 pub const SESSION: u64 = 16;
 
+// 02, point 1, the reader of NACK entries: not a multiple of 4 bytes.
+pub const NACK_ENTRIES: u64 = 17;
+
 // The table's numbers, ascending, so that a number changed here is refused here.
-pub fn numbers() -> [u64; 16]
+pub fn numbers() -> [u64; 17]
     ensures { λ r. ⌜ r ≡ numbers ⌝ }
 {
     [
@@ -77,6 +82,7 @@ pub fn numbers() -> [u64; 16]
         COUNT,
         OUTPUT,
         SESSION,
+        NACK_ENTRIES,
     ]
 }
 

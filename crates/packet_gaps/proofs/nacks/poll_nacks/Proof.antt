@@ -8,7 +8,7 @@ use Rattle.model.proofs.Laid.{length-gapsOf}
 use Rattle.packet_gaps.specs.Gaps.{gap, instantsFit}
 use Rattle.packet_gaps.proofs.Laws.{noGap, due-as}
 use Rattle.packet_gaps.proofs.Turns.{every-at}
-use Rattle.packet_gaps.proofs.Writing.{none-at, Polling, polling-none, polling-here, polling-due, polling-skip, polling-count, polling-gaps, polling-out}
+use Rattle.packet_gaps.proofs.Writing.{none-at, nacked-here, nacked-all, Polling, polling-none, polling-due, polling-skip, polling-count, polling-out}
 use borrow.Author.Needs.{needs}
 use Rattle.packet_gaps.proofs.nacks.poll_nacks.Statement.{statement}
 use Rattle.packet_gaps.proofs.nacks.poll_nacks.Tie as tie
@@ -31,7 +31,7 @@ is-due-requires c κs = let s = c .before .before .before .before .before .befor
     let r = c .read in
     let g = gap (r .result) in
     let h = c .before .before .loop-test .taken in
-    let e = polling-here (s .args .t) (s .args .now) (s .args .s .now) (s .args .out .now) (l .s) (l .out) (s .args .n) (l .i) (l .count) (l .inv) h g (r .ensures) in
+    let e = nacked-here (s .args .t) (s .args .now) (s .args .s .now) (l .s) (s .args .n) (l .i) (l .inv .gaps) h g (r .ensures) in
     (ap instantsFit e ∙ every-at instantsFit (gapsOf (s .args .s .now) (s .args .n)) noGap (l .i) (s .pre .1 .1 .0) (omega (arith, length-gapsOf (s .args .s .now) (s .args .n))), s .pre .1 .1 .1 .1)
 
 truncated-requires : tie.Need-truncated-requires Inv-loop μ-loop
@@ -52,7 +52,7 @@ nack-requires c κs = let s = c .before .before .before .before .before .before 
     let r = c .before .before .before .before .read in
     let g = gap (r .result) in
     let h = c .before .before .before .before .before .before .loop-test .taken in
-    let e = polling-here (s .args .t) (s .args .now) (s .args .s .now) (s .args .out .now) (l .s) (l .out) (s .args .n) (l .i) (l .count) (l .inv) h g (r .ensures) in
+    let e = nacked-here (s .args .t) (s .args .now) (s .args .s .now) (l .s) (s .args .n) (l .i) (l .inv .gaps) h g (r .ensures) in
     ap full e ∙ none-at (due (s .args .t) (s .args .now)) full (gapsOf (s .args .s .now) (s .args .n)) noGap (l .i) (s .pre .1 .1 .1 .0) (omega (arith, length-gapsOf (s .args .s .now) (s .args .n))) (due-as (s .args .t) (s .args .now) _ _ _ _ (c .before .before .before .is-due .ensures) e (c .before .before .if1 .taken))
 
 write-requires : tie.Need-write-requires Inv-loop μ-loop
@@ -70,7 +70,7 @@ loop-again c = let s = c .before .before .before .before .before .before .before
     let r = c .before .before .before .before .before .before .before .before .read in
     let g = gap (r .result) in
     let h = c .before .before .before .before .before .before .before .before .before .before .loop-test .taken in
-    let e = polling-here (s .args .t) (s .args .now) (s .args .s .now) (s .args .out .now) (l .s) (l .out) (s .args .n) (l .i) (l .count) (l .inv) h g (r .ensures) in
+    let e = nacked-here (s .args .t) (s .args .now) (s .args .s .now) (l .s) (s .args .n) (l .i) (l .inv .gaps) h g (r .ensures) in
     polling-due (s .args .t) (s .args .now) (s .args .s .now) (s .args .out .now) (l .s) (l .out) (s .args .n) (l .i) (l .count) (l .inv) h g _ _ _ _ e (due-as (s .args .t) (s .args .now) _ _ _ _ (c .before .before .before .before .before .before .before .is-due .ensures) e (c .before .before .before .before .before .before .if1 .taken)) (c .before .before .before .nack .ensures) (c .before .before .write .ensures) (c .before .before .before .before .before .truncated .ensures) refl
 
 add-i-2 : tie.Need-add-i-2 Inv-loop μ-loop
@@ -85,7 +85,7 @@ loop-again-2 c = let s = c .before .before .before .before .before .before .befo
     let r = c .before .before .read in
     let g = gap (r .result) in
     let h = c .before .before .before .before .loop-test .taken in
-    let e = polling-here (s .args .t) (s .args .now) (s .args .s .now) (s .args .out .now) (l .s) (l .out) (s .args .n) (l .i) (l .count) (l .inv) h g (r .ensures) in
+    let e = nacked-here (s .args .t) (s .args .now) (s .args .s .now) (l .s) (s .args .n) (l .i) (l .inv .gaps) h g (r .ensures) in
     polling-skip (s .args .t) (s .args .now) (s .args .s .now) (s .args .out .now) (l .s) (l .out) (s .args .n) (l .i) (l .count) (l .inv) h (due-as (s .args .t) (s .args .now) _ _ _ _ (c .before .is-due .ensures) e (c .if1 .left))
 
 same-length : tie.Need-same-length Inv-loop μ-loop
@@ -97,7 +97,7 @@ same-length-2 c = search needs
 returns : tie.Need-returns Inv-loop μ-loop
 returns c = let s = c .before .before .before .before in
     let l = c .before .loop in
-    (polling-count (s .args .t) (s .args .now) (s .args .s .now) (s .args .out .now) (l .s) (l .out) (s .args .n) (l .i) (l .count) (l .inv) (c .loop-test .left), (polling-gaps (s .args .t) (s .args .now) (s .args .s .now) (s .args .out .now) (l .s) (l .out) (s .args .n) (l .i) (l .count) (l .inv) (c .loop-test .left), polling-out (s .args .t) (s .args .now) (s .args .s .now) (s .args .out .now) (l .s) (l .out) (s .args .n) (l .i) (l .count) (l .inv) (c .loop-test .left)))
+    (polling-count (s .args .t) (s .args .now) (s .args .s .now) (s .args .out .now) (l .s) (l .out) (s .args .n) (l .i) (l .count) (l .inv) (c .loop-test .left), (nacked-all (s .args .t) (s .args .now) (s .args .s .now) (l .s) (s .args .n) (l .i) (l .inv .gaps) (c .loop-test .left), polling-out (s .args .t) (s .args .now) (s .args .s .now) (s .args .out .now) (l .s) (l .out) (s .args .n) (l .i) (l .count) (l .inv) (c .loop-test .left)))
 
 pub poll-nacks-spec : {M : Type 1} → statement M
 poll-nacks-spec =
