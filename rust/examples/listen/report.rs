@@ -240,8 +240,13 @@ impl Report {
         let nacked = figures.nacked - self.before.nacked;
         let settled = figures.recovered - self.before.recovered + figures.lost.saturating_sub(self.before.lost);
         if nacked > 20 + 10 * settled {
+            // From an estimate a NACK is repeated after a millisecond at the earliest, so this is no storm, but repairs are slower than it says.
+            let cause = match queue.round_trip() {
+                Some(_) => "the measured round trip is too short for this path; a new session measures anew",
+                None => "the resend delay is too short for this path",
+            };
             Some(format!(
-                "{nacked} numbers NACKed, {settled} recovered or lost: NACKs are repeated faster than repairs come"
+                "{nacked} numbers NACKed, {settled} recovered or lost: NACKs are repeated faster than repairs come; {cause}"
             ))
         } else if figures.recovered > 2 && queue.round_trip().is_none() {
             Some("repairs come, no round trip is measured: each was NACKed twice; the resend delay is below the round trip".into())
