@@ -97,7 +97,10 @@ fn the_refusals_have_the_same_names_and_numbers() {
     assert_eq!(ours.len(), 16);
     let library = include_str!("../../crates/refusals/src/lib.rt").lines();
     let library: Vec<_> = library.filter_map(|line| numbered(line, "pub const ", ": u64 = ")).collect();
-    assert_eq!(library, ours);
+    // 17 is that of the reader of NACK entries, which is not exported yet.
+    let (exported, to_come) = library.split_at(16);
+    assert_eq!(exported, ours);
+    assert_eq!(to_come, [("NackEntries".to_string(), 17)]);
     let (_, header) = include_str!("../../include/bizhgemu.h").split_once("enum bizhgemu_refusal {").unwrap();
     let (header, _) = header.split_once("};").unwrap();
     assert!(header.contains("BIZHGEMU_ACCEPTED = 0,"));
