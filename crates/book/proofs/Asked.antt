@@ -28,7 +28,7 @@ use Rattle.model.specs.Rules.{is, below, without, Place, waits, between, fresh,
 use Rattle.model.specs.Push.{insertSorted, mediaPlace, heard, lastAfter, afterQueued, afterDropped, frontOut, withinDepth, mediaEntry, afterPlaced, afterMedia, Fate, tooLate, recovered, redundant, repairEntry, repairFate, afterFate, afterRepair}
 use Rattle.model.specs.Poll.{drained, lose, goingOut, handOut, afterPoll, dueGaps, nackNumbers, nackAll, afterPollNack, timingsOf}
 use Rattle.model.specs.Storage.{Storage, Stored, parse}
-use Rattle.model.specs.Calls.{Call, media, repair, poll, pollNack, timeoutReceive, timeoutNack, rtxStats, highestReceived, taken, outputAfter}
+use Rattle.model.specs.Calls.{Call, media, repair, poll, pollNack, nackWire, timeoutReceive, timeoutNack, rtxStats, highestReceived, taken, outputAfter}
 use Rattle.model.specs.Table.{callRefusal, mediaRefusal, repairRefusal, pollRefusal, pollNackRefusal, refusal, openingRefusal}
 use Rattle.model.specs.Did.{did, accepted}
 use Rattle.model.proofs.Lists.{by-cases, by-or, no-eqb, Each, none, more, each-imp, each-both, each-append, each-keep, each-kept, each-map, each-following, Rising, rising-rest, rising-first, holds-of-some}
@@ -124,6 +124,8 @@ module _ (from n : ℕ) where
   taken-since (poll now out) s e i =
       hand-since (goingOut now s (s .entries)) (drained now s) (drained-since now s i (clock-of (s .queue) now (orElse-none _ _ (orElse-none _ _ e .1) .0) .0))
   taken-since (pollNack now out) s e i =
+      nack-since now (drained now s) refl (drained-since now s i (clock-of (s .queue) now (orElse-none _ _ (orElse-none _ _ e .1) .0) .0))
+  taken-since (nackWire now out) s e i =
       nack-since now (drained now s) refl (drained-since now s i (clock-of (s .queue) now (orElse-none _ _ (orElse-none _ _ e .1) .0) .0))
   taken-since (timeoutReceive now) s e i = i
   taken-since (timeoutNack now) s e i = i
