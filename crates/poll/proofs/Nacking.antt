@@ -4,11 +4,11 @@ use mathlib.Core.Path.{_≡_, refl, sym, ap, _∙_, subst}
 use mathlib.Core.Logic.{_⊎_, inl, inr, ⊎-elim}
 use mathlib.Core.Bool.{Bool, true, false, cond}
 use mathlib.Core.List.{List, [], _∷_, map}
-use Prim.Native.Nat.{ℕ, zero, suc, _+_, _*_, _/_, _^_, _≤_, _<_}
+use Prim.Native.Nat.{ℕ, zero, suc, _+_, _/_, _≤_}
 use native.Mathlib.Omega.{arith}
 use lib.Dec.{ltb, eqb}
 use lib.ListN.{length, drop, length-map}
-use borrow.Author.Tests.{eq-eqb, ne-eqb, eqb-true, eqb-false, lt-ltb, le-ltb, ltb-true, ltb-false}
+use borrow.Author.Tests.{eq-eqb, ne-eqb, eqb-true, eqb-false, ltb-false}
 use Rattle.words.specs.Words.{over}
 use Rattle.words.specs.Blocks.{laid}
 use Rattle.words.specs.Order.{ascends}
@@ -25,11 +25,11 @@ use Rattle.model.specs.Lists.{keep, some?, every?}
 use Rattle.model.specs.Records.{Gap, gapNumbers}
 use Rattle.model.specs.Rules.{due, nackDue, truncated, full, givenUp, notGivenUp}
 use Rattle.model.specs.Poll.{lose, drained, timingsOf, dueGaps, nackNumbers, nackEntries, nackAll, afterPollNack}
-use Rattle.model.specs.Storage.{Stored, GAP-WORDS, gapWords, gapsOf, parse, write}
+use Rattle.model.specs.Storage.{Stored, gapWords, gapsOf, parse, write}
 use Rattle.nack_pairs.specs.Wire.{ENTRY-BYTES, entries}
 use Rattle.model.specs.Calls.{Answer, Call, pollNack, nackWire, refused, taken, answered, outputOf, outputAfter, wire, nackAnswer}
 use Rattle.model.specs.Table.{sessionSound, sessionRefusal, outputRefusal, clockRefusal, countRefusal, nackCountRefusal, nacksRefusal, pollNackRefusal, callRefusal, refusal}
-use Rattle.model.specs.Did.{Done, did, accepted}
+use Rattle.model.specs.Did.{Done, accepted}
 use Rattle.model.proofs.SoundQueue.{clock-of}
 use Rattle.model.proofs.OnTheWire.{wire-places}
 use Rattle.model.proofs.Laid.{length-entriesOf, length-rememberedOf}

@@ -1,12 +1,12 @@
 -- `begin` meets its contract: a refusal leaves all as it was, else `settle` is done.
-use mathlib.Core.Path.{_≡_, refl, sym, ap, _∙_}
+use mathlib.Core.Path.{_≡_, sym, ap, _∙_}
 use Prim.Native.Nat.{ℕ}
 use Rattle.model.specs.Storage.{Stored, gapsOf}
 use Rattle.model.specs.Contract.{stored}
 use Rattle.storage.proofs.Settled.{passed-16}
 use Rattle.poll.specs.Nacking.{foundIn, judgedBy, nackRefusal, settledBy}
 use Rattle.poll.specs.declared.nack.Found.{Found}
-use Rattle.poll.specs.declared.nack.Judged.the-variants.{Refused, Passed}
+use Rattle.poll.specs.declared.nack.Judged.the-variants.{Refused}
 use Rattle.poll.proofs.Nacking.{judging, judged-refused, judged-passed, begin-damaged, begin-judged, says-refused, says-passed, left-alone, settled-by}
 use borrow.Author.Needs.{needs}
 use Rattle.poll.proofs.nack.begin.Statement.{statement}

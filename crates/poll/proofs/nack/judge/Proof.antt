@@ -1,9 +1,7 @@
 -- `judge` meets its contract: 15 and 8, then 14 by what was found.
-use mathlib.Core.Path.{refl, sym, ap, _∙_}
-use Rattle.config.specs.declared.NackTimings.{NackTimings}
+use mathlib.Core.Path.{sym, ap, _∙_}
 use Rattle.model.specs.Storage.{gapsOf}
 use Rattle.poll.specs.Nacking.{foundIn, judgedBy}
-use Rattle.poll.specs.declared.nack.Judged.the-variants.{Refused}
 use Rattle.poll.proofs.Nacking.{judge-early, judge-late, judge-clock, says-refused, says-passed, small-are, found-is}
 use borrow.Author.Needs.{needs}
 use Rattle.poll.proofs.nack.judge.Statement.{statement}

@@ -1,5 +1,5 @@
 -- `poll_nack` meets its contract: refused by `begin`, nothing is touched; else what `accept` does is what the call does.
-use mathlib.Core.Path.{_≡_, sym, _∙_}
+use mathlib.Core.Path.{sym, _∙_}
 use lib.ListN.{length}
 use Rattle.model.specs.Storage.{Stored, gapsOf}
 use Rattle.model.specs.Calls.{pollNack, outputOf}

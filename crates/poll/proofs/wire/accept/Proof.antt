@@ -9,7 +9,6 @@ use Rattle.model.specs.Records.{Gap, gapNumbers}
 use Rattle.model.specs.Calls.{wire}
 use Rattle.poll.specs.Answers.{wireAnswer}
 use Rattle.poll.proofs.Nacking.{due-is, left-held, left-fewer, left-instants, left-none-full, left-ascend, left-nacked}
-use borrow.Author.Needs.{needs}
 use Rattle.poll.proofs.wire.accept.Statement.{statement}
 use Rattle.poll.proofs.wire.accept.Tie as tie
 

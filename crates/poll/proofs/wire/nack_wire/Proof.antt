@@ -1,5 +1,5 @@
 -- `nack_wire` meets its contract: as `poll_nack`, with four bytes to a place.
-use mathlib.Core.Path.{_≡_, sym, _∙_}
+use mathlib.Core.Path.{sym, _∙_}
 use native.Mathlib.Omega.{arith}
 use Prim.Native.Nat.{_/_}
 use lib.ListN.{length}
