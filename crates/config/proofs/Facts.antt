@@ -22,15 +22,13 @@ pub record Usable (s : Settings) : Type 0 where
   pub delay : s .delay ≤ longest
   pub initial : s .«initial_nack_delay» ≤ longest
   pub resend : s .«default_nack_resend_delay» ≤ longest
-  pub window : s .«nack_window» ≤ longest
   pub attempts-some : 1 ≤ s .«max_nack_attempts»
   pub attempts : s .«max_nack_attempts» ≤ 255
 
--- the parts of a conjunction of eight
-parts : (a b c d e f g h : Bool) → T (a && b && c && d && e && f && g && h) → T a × T b × T c × T d × T e × T f × T g × T h
-parts a b c d e f g h t =
-    let t7 = and-l (a && b && c && d && e && f && g) h t in
-    let t6 = and-l (a && b && c && d && e && f) g t7 in
+-- the parts of a conjunction of seven
+parts : (a b c d e f g : Bool) → T (a && b && c && d && e && f && g) → T a × T b × T c × T d × T e × T f × T g
+parts a b c d e f g t =
+    let t6 = and-l (a && b && c && d && e && f) g t in
     let t5 = and-l (a && b && c && d && e) f t6 in
     let t4 = and-l (a && b && c && d) e t5 in
     let t3 = and-l (a && b && c) d t4 in
@@ -41,8 +39,7 @@ parts a b c d e f g h t =
       and-r (a && b && c) d t4,
       and-r (a && b && c && d) e t5,
       and-r (a && b && c && d && e) f t6,
-      and-r (a && b && c && d && e && f) g t7,
-      and-r (a && b && c && d && e && f && g) h t,
+      and-r (a && b && c && d && e && f) g t,
     )
 
 ends : (l h n : ℕ) → T (within l h n) → (l ≤ n) × (n ≤ h)
@@ -52,11 +49,11 @@ pub usable : (s : Settings) → T (settingsValid s) → Usable s
 unfolding settingsValid
 usable s t =
     let p =
-    parts (within 1 1000000 (s .«clock_rate»)) (within 1 1024 (s .«max_entries»)) (within 999 4096 (s .«max_gaps»)) (leb (s .delay) longest) (leb (s .«initial_nack_delay») longest) (leb (s .«default_nack_resend_delay») longest) (leb (s .«nack_window») longest) (within 1 255 (s .«max_nack_attempts»)) t in
+    parts (within 1 1000000 (s .«clock_rate»)) (within 1 1024 (s .«max_entries»)) (within 999 4096 (s .«max_gaps»)) (leb (s .delay) longest) (leb (s .«initial_nack_delay») longest) (leb (s .«default_nack_resend_delay») longest) (within 1 255 (s .«max_nack_attempts»)) t in
     let rate = ends 1 1000000 (s .«clock_rate») (p .0) in
     let entries = ends 1 1024 (s .«max_entries») (p .1) in
     let gaps = ends 999 4096 (s .«max_gaps») (p .2) in
-    let attempts = ends 1 255 (s .«max_nack_attempts») (p .7) in
+    let attempts = ends 1 255 (s .«max_nack_attempts») (p .6) in
     record {
       rate-some = rate .0;
       rate = rate .1;
@@ -67,7 +64,6 @@ usable s t =
       delay = leb→le (s .delay) longest (p .3);
       initial = leb→le (s .«initial_nack_delay») longest (p .4);
       resend = leb→le (s .«default_nack_resend_delay») longest (p .5);
-      window = leb→le (s .«nack_window») longest (p .6);
       attempts-some = attempts .0;
       attempts = attempts .1;
     }

@@ -27,7 +27,6 @@ settingsValid s =
     && leb (s .delay) longest
     && leb (s .«initial_nack_delay») longest
     && leb (s .«default_nack_resend_delay») longest
-    && leb (s .«nack_window») longest
     && within 1 255 (s .«max_nack_attempts»)
 
 -- "a payload type over 127"

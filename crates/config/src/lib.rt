@@ -49,8 +49,6 @@ pub struct Settings {
     // How long to wait before it is NACKed again, as long as no round trip was measured.
     pub default_nack_resend_delay: u64,
     pub max_nack_attempts: u32,
-    // Kept as in the Rust, where it has no effect.
-    pub nack_window: u64,
 }
 
 // Whose packets the session takes.
@@ -122,7 +120,6 @@ impl Settings {
             & (self.delay <= LONGEST)
             & (self.initial_nack_delay <= LONGEST)
             & (self.default_nack_resend_delay <= LONGEST)
-            & (self.nack_window <= LONGEST)
             & ((1 <= self.max_nack_attempts) & (self.max_nack_attempts <= MAX_ATTEMPTS))
     }
 }

@@ -12,7 +12,7 @@ gaps-valid-requires c κs = search needs
 
 returns : tie.Need-returns
 unfolding settingsValid
-returns c = rw (c .before .before .before .before .before .before .gaps-valid .ensures, c .before .before .before .before .before .before .before .depth-valid .ensures)
+returns c = rw (c .before .before .before .before .before .gaps-valid .ensures, c .before .before .before .before .before .before .depth-valid .ensures)
 
 pub is-valid-spec : {M : Type 1} → statement M
 is-valid-spec = tie.close (tie.spec depth-valid-requires gaps-valid-requires returns)
