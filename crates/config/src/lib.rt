@@ -1,7 +1,7 @@
 // Settings (003) of a session, flat: the opening checks every field, whether the mode uses it or not (01, refusal 1).
 ghost use mathlib.Core.Path.{_≡_};
 ghost use Rattle.config.specs.Timings.{nackTimings, targetDelay};
-ghost use Rattle.config.specs.Mode.{modeOf};
+ghost use Rattle.config.specs.Mode.{modeOf, modeNumber, dynamicOf};
 ghost use Rattle.config.specs.Valid.{depthValid, gapsValid, mostAttempts, modeValid, dynamicValid, settingsValid, sendersValid};
 use rtp::Ssrc;
 use rtx_state::OptRtt;
@@ -99,6 +99,16 @@ pub fn mode_of(number: u64, dynamic: RtpInboundStreamDynamicConfig) -> RtpInboun
     RtpInboundQueueMode::SortedQueue(RtpInboundStreamSortedQueueMode::Dynamic(dynamic))
 }
 
+fn no_dynamic() -> RtpInboundStreamDynamicConfig
+    ensures { λ r. ⌜ r ≡ record { min = 0; max = 0; «target_recovery» = 0 } ⌝ }
+{
+    RtpInboundStreamDynamicConfig {
+        min: 0,
+        max: 0,
+        target_recovery: 0,
+    }
+}
+
 // "D outside 1 to 1,024" is refused.
 pub fn depth_valid(depth: usize) -> bool
     ensures { λ r. ⌜ r ≡ depthValid depth ⌝ }
@@ -125,6 +135,32 @@ impl RtpInboundStreamDynamicConfig {
 }
 
 impl RtpInboundQueueMode {
+    // 0, 1 or 2, as `mode_of` takes it.
+    pub fn number(self) -> u64
+        ensures { λ r. ⌜ r ≡ modeNumber self ⌝ }
+    {
+        match self {
+            RtpInboundQueueMode::Passthrough => 0,
+            RtpInboundQueueMode::SortedQueue(sorted) => match sorted {
+                RtpInboundStreamSortedQueueMode::Fixed => 1,
+                RtpInboundStreamSortedQueueMode::Dynamic(_) => 2,
+            },
+        }
+    }
+
+    // What mode 2 has; zeros outside it.
+    pub fn dynamic(self) -> RtpInboundStreamDynamicConfig
+        ensures { λ r. ⌜ r ≡ dynamicOf self ⌝ }
+    {
+        match self {
+            RtpInboundQueueMode::Passthrough => no_dynamic(),
+            RtpInboundQueueMode::SortedQueue(sorted) => match sorted {
+                RtpInboundStreamSortedQueueMode::Fixed => no_dynamic(),
+                RtpInboundStreamSortedQueueMode::Dynamic(d) => d,
+            },
+        }
+    }
+
     fn max_attempts(self) -> u32
         ensures { λ r. ⌜ r ≡ mostAttempts self ⌝ }
     {
