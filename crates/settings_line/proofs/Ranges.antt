@@ -37,7 +37,7 @@ holds e = rw e tt
 
 -- ---- settings and numbers
 
-mode-back : (m : RtpInboundQueueMode) → modeOf (modeNumber m) (dynamicOf m) ≡ m
+pub mode-back : (m : RtpInboundQueueMode) → modeOf (modeNumber m) (dynamicOf m) ≡ m
 unfolding modeOf modeNumber dynamicOf
 mode-back Passthrough = refl
 mode-back (SortedQueue Fixed) = refl
