@@ -100,7 +100,6 @@ struct bizhgemu_config {
 	uint64_t initial_nack_delay;        /* from the detection of a gap to its first NACK */
 	uint64_t default_nack_resend_delay; /* from one NACK to the next while no round trip was measured; after that it is the
 	                                     * round trip's own, at least a millisecond */
-	uint64_t nack_window;               /* has no effect, as in the original queue */
 	/* Sizes: they set the lengths of the storage. */
 	size_t max_entries;                 /* depth D: packets kept, 1 to 1,024 */
 	size_t max_gaps;                    /* G: most missing numbers at a time, 999 to 4,096 */
@@ -246,13 +245,13 @@ struct bizhgemu_lengths {
 #else
 #define BIZHGEMU_SIZE(NAME, BYTES) typedef char NAME##_has_its_size[sizeof(struct NAME) == (BYTES) ? 1 : -1]
 #endif
-BIZHGEMU_SIZE(bizhgemu_config, 80);
-BIZHGEMU_SIZE(bizhgemu_session, 272);
-BIZHGEMU_SIZE(bizhgemu_opened, 280);
-BIZHGEMU_SIZE(bizhgemu_pushed, 288);
+BIZHGEMU_SIZE(bizhgemu_config, 72);
+BIZHGEMU_SIZE(bizhgemu_session, 264);
+BIZHGEMU_SIZE(bizhgemu_opened, 272);
+BIZHGEMU_SIZE(bizhgemu_pushed, 280);
 BIZHGEMU_SIZE(bizhgemu_packet, 48);
-BIZHGEMU_SIZE(bizhgemu_polled, 336);
-BIZHGEMU_SIZE(bizhgemu_polled_nack, 288);
+BIZHGEMU_SIZE(bizhgemu_polled, 328);
+BIZHGEMU_SIZE(bizhgemu_polled_nack, 280);
 BIZHGEMU_SIZE(bizhgemu_timeout, 24);
 BIZHGEMU_SIZE(bizhgemu_rtx_stats, 64);
 BIZHGEMU_SIZE(bizhgemu_highest, 24);
@@ -317,7 +316,6 @@ static inline struct bizhgemu_config bizhgemu_default_config(uint8_t pt, uint32_
 	config.delay = UINT64_C(100000000);
 	config.initial_nack_delay = UINT64_C(5000000);
 	config.default_nack_resend_delay = UINT64_C(20000000);
-	config.nack_window = UINT64_C(200000000);
 	config.max_entries = 100;
 	config.max_gaps = 999;
 	config.clock_rate = 8000;

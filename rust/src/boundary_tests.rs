@@ -174,7 +174,7 @@ fn words(session: &ffi::Session) -> Vec<u64> {
 
 fn config_words(config: &ffi::Config) -> Vec<u64> {
     let c = config;
-    let durations = [c.delay, c.initial_nack_delay, c.default_nack_resend_delay, c.nack_window];
+    let durations = [c.delay, c.initial_nack_delay, c.default_nack_resend_delay];
     let sizes = [c.max_entries as u64, c.max_gaps as u64];
     let words = [c.clock_rate, c.max_nack_attempts, c.mode, c.has_rtx, c.ssrc, c.rtx_ssrc];
     let payload_types = [u64::from(c.pt), u64::from(c.rtx_pt)];
@@ -192,15 +192,14 @@ fn the_opening_carries_every_setting() {
         initial_nack_delay: Duration::from_nanos(15),
         default_nack_resend_delay: Duration::from_nanos(16),
         max_nack_attempts: 17,
-        nack_window: Duration::from_nanos(18),
         payload_type: 19,
         ssrc: 20,
         rtx: Some(Rtx { payload_type: 21, ssrc: 22 }),
     };
     let session = Queue::open(&config).unwrap().session;
-    let mut expected = vec![12, 15, 16, 18, 13, 1014, 11, 17, 0, 1, 20, 22, 19, 21];
-    expected.resize(38, 0);
-    expected[32] = 11f64.to_bits();
+    let mut expected = vec![12, 15, 16, 13, 1014, 11, 17, 0, 1, 20, 22, 19, 21];
+    expected.resize(37, 0);
+    expected[31] = 11f64.to_bits();
     assert_eq!(words(&session), expected);
 }
 
@@ -209,7 +208,7 @@ fn a_used_session_has_each_word_in_its_place() {
     let queue = used();
     let (jitter, loss) = (queue.session.jitter_bits, queue.session.loss_bits);
     assert!(f64::from_bits(jitter) > 0.0 && f32::from_bits(loss) > 0.0);
-    let settings = [100 * MS, 5 * MS, 20 * MS, 200 * MS, 3, 999, 8000, 3, 1, 1];
+    let settings = [100 * MS, 5 * MS, 20 * MS, 3, 999, 8000, 3, 1, 1];
     let senders = [SSRC.into(), RTX.ssrc.into(), 5, 97];
     let (number, timestamp) = (queue.session.last_number & !0xffff, queue.session.last_timestamp & !0xffff_ffff);
     let received = [126 * MS, 1, 121 * MS, timestamp + 800, number + 15, 1, number + 12];
@@ -422,7 +421,6 @@ fn damaged_words_are_refused() {
         ("a setting: delay", |l, past| l.session.config.delay = MINUTE + past),
         ("a setting: initial NACK delay", |l, past| l.session.config.initial_nack_delay = MINUTE + past),
         ("a setting: resend delay", |l, past| l.session.config.default_nack_resend_delay = MINUTE + past),
-        ("a setting: NACK window", |l, past| l.session.config.nack_window = MINUTE + past),
         ("a setting: no attempt", |l, past| l.session.config.max_nack_attempts = 1 - past as u32),
         ("a setting: attempts", |l, past| l.session.config.max_nack_attempts = 255 + past as u32),
         ("a setting: payload type", |l, past| l.session.config.pt = 127 + past as u8),

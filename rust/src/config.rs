@@ -67,8 +67,6 @@ pub struct Config {
     pub default_nack_resend_delay: Duration,
     /// NACKs after which [`Mode::Passthrough`] gives a number up, 1 to 255. Default: 3.
     pub max_nack_attempts: u32,
-    /// At most 60 s. Kept as in the original queue, where it has no effect. Default: 200 ms.
-    pub nack_window: Duration,
     /// Payload type of media packets, 0 to 127. Default: 0 (PCMU).
     pub payload_type: u8,
     /// SSRC of media packets. Default: 0.
@@ -88,7 +86,6 @@ impl Default for Config {
             initial_nack_delay: Duration::from_millis(5),
             default_nack_resend_delay: Duration::from_millis(20),
             max_nack_attempts: 3,
-            nack_window: Duration::from_millis(200),
             payload_type: 0,
             ssrc: 0,
             rtx: None,
@@ -169,7 +166,6 @@ impl Config {
             delay: nanoseconds(self.delay),
             initial_nack_delay: nanoseconds(self.initial_nack_delay),
             default_nack_resend_delay: nanoseconds(self.default_nack_resend_delay),
-            nack_window: nanoseconds(self.nack_window),
             max_entries: self.max_entries,
             max_gaps: self.max_gaps,
             clock_rate: self.clock_rate,
@@ -198,7 +194,6 @@ impl Config {
             initial_nack_delay: nanos(words.initial_nack_delay),
             default_nack_resend_delay: nanos(words.default_nack_resend_delay),
             max_nack_attempts: words.max_nack_attempts,
-            nack_window: nanos(words.nack_window),
             payload_type: words.pt,
             ssrc: words.ssrc,
             rtx: told(words.has_rtx.into(), Rtx { payload_type: words.rtx_pt, ssrc: words.rtx_ssrc }),

@@ -117,7 +117,7 @@ fn a_clock_counts_from_its_start() {
 
 #[test]
 fn settings_out_of_range_are_refused() {
-    let faults: [fn(&mut Config); 14] = [
+    let faults: [fn(&mut Config); 13] = [
         |config| config.clock_rate = 0,
         |config| config.clock_rate = 1_000_001,
         |config| config.max_entries = 0,
@@ -127,7 +127,6 @@ fn settings_out_of_range_are_refused() {
         |config| config.delay = Duration::MAX,
         |config| config.initial_nack_delay = ms(60_001),
         |config| config.default_nack_resend_delay = ms(60_001),
-        |config| config.nack_window = ms(60_001),
         |config| config.max_nack_attempts = 0,
         |config| config.max_nack_attempts = 256,
         |config| config.payload_type = 128,
@@ -180,7 +179,7 @@ fn other() -> Config {
     let mut config = Config::opus(111, 0xa1b2_c3d4);
     (config.mode, config.delay, config.max_entries, config.max_gaps) = (Mode::Passthrough, ms(61), 7, 1001);
     (config.initial_nack_delay, config.default_nack_resend_delay) = (ms(6), ms(21));
-    (config.max_nack_attempts, config.nack_window, config.rtx) = (4, ms(201), Some(Rtx::new(112, 5)));
+    (config.max_nack_attempts, config.rtx) = (4, Some(Rtx::new(112, 5)));
     config
 }
 

@@ -36,7 +36,6 @@ static struct bizhgemu_config settings(void)
 	c.delay = 90 * MS;
 	c.initial_nack_delay = 7 * MS;
 	c.default_nack_resend_delay = 33 * MS;
-	c.nack_window = 44 * MS;
 	c.max_entries = D;
 	c.max_gaps = G;
 	c.clock_rate = 16000;
@@ -141,7 +140,6 @@ static void ranges(void)
 	RANGE(delay, 60000 * MS + 1);
 	RANGE(initial_nack_delay, 60000 * MS + 1);
 	RANGE(default_nack_resend_delay, 60000 * MS + 1);
-	RANGE(nack_window, 60000 * MS + 1);
 	RANGE(max_entries, 0);
 	RANGE(max_gaps, 998);
 	RANGE(clock_rate, 1000001);

@@ -91,7 +91,7 @@ abbrev pub config : ℕ → ℕ → Config
 config D initialDelay =
     record {
       settings =
-          record { mode = SortedQueue; «clock_rate» = 8000; «max_entries» = D; «max_gaps» = 999; delay = 100000000; «initial_nack_delay» = initialDelay; «default_nack_resend_delay» = 20000000; «max_nack_attempts» = 10; «nack_window» = 1000000000 };
+          record { mode = SortedQueue; «clock_rate» = 8000; «max_entries» = D; «max_gaps» = 999; delay = 100000000; «initial_nack_delay» = initialDelay; «default_nack_resend_delay» = 20000000; «max_nack_attempts» = 10 };
       senders = record { pt = 0; ssrc = record { 0 = 0 }; «has_rtx» = true; «rtx_pt» = 1; «rtx_ssrc» = record { 0 = 1 } };
     }
 

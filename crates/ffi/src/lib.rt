@@ -1,4 +1,5 @@
-// The library for C and Rust: the opening, the eight calls, two readings and the version, on words that the caller keeps and storage that it lends.
+// The library for C and Rust: the opening, the eight calls, two readings and the version, on words that the caller keeps and storage that it lends;
+// in settings.rt the line of settings.
 // No function asks anything of its caller but live slices of the lengths passed, none of which overlaps another that is written.
 ghost use mathlib.Core.Path.{_≡_};
 ghost use mathlib.Core.List.{[]};
@@ -32,6 +33,8 @@ use poll::nack;
 use push::rtx;
 use queue::open;
 use queue::reading;
+
+pub mod settings;
 
 // The version of this library, as 1,000,000 · major + 1,000 · minor + patch; docs/VERSIONS.md says what changes it.
 pub const VERSION: u64 = 2000;

@@ -35,7 +35,7 @@ unfoldable pub configOf : ConfigWords → Config
 configOf c =
     record {
       settings =
-          record { mode = modeOf (c .mode); «clock_rate» = c .«clock_rate»; «max_entries» = c .«max_entries»; «max_gaps» = c .«max_gaps»; delay = c .delay; «initial_nack_delay» = c .«initial_nack_delay»; «default_nack_resend_delay» = c .«default_nack_resend_delay»; «max_nack_attempts» = c .«max_nack_attempts»; «nack_window» = c .«nack_window» };
+          record { mode = modeOf (c .mode); «clock_rate» = c .«clock_rate»; «max_entries» = c .«max_entries»; «max_gaps» = c .«max_gaps»; delay = c .delay; «initial_nack_delay» = c .«initial_nack_delay»; «default_nack_resend_delay» = c .«default_nack_resend_delay»; «max_nack_attempts» = c .«max_nack_attempts» };
       senders = record { pt = c .pt; ssrc = record { 0 = c .ssrc }; «has_rtx» = eqb (c .«has_rtx») 1; «rtx_pt» = c .«rtx_pt»; «rtx_ssrc» = record { 0 = c .«rtx_ssrc» } };
     }
 
@@ -85,7 +85,6 @@ configWords c =
       delay = set .delay;
       «initial_nack_delay» = set .«initial_nack_delay»;
       «default_nack_resend_delay» = set .«default_nack_resend_delay»;
-      «nack_window» = set .«nack_window»;
       «max_entries» = set .«max_entries»;
       «max_gaps» = set .«max_gaps»;
       «clock_rate» = set .«clock_rate»;
@@ -147,7 +146,7 @@ wordsOf s =
 -- zeros, where there is no session to tell
 unfoldable pub noConfig : ConfigWords
 noConfig =
-    record { delay = 0; «initial_nack_delay» = 0; «default_nack_resend_delay» = 0; «nack_window» = 0; «max_entries» = 0; «max_gaps» = 0; «clock_rate» = 0; «max_nack_attempts» = 0; mode = 0; «has_rtx» = 0; ssrc = 0; «rtx_ssrc» = 0; pt = 0; «rtx_pt» = 0 }
+    record { delay = 0; «initial_nack_delay» = 0; «default_nack_resend_delay» = 0; «max_entries» = 0; «max_gaps» = 0; «clock_rate» = 0; «max_nack_attempts» = 0; mode = 0; «has_rtx» = 0; ssrc = 0; «rtx_ssrc» = 0; pt = 0; «rtx_pt» = 0 }
 
 unfoldable pub noSession : SessionWords
 noSession =

@@ -33,7 +33,6 @@ pub struct ConfigWords {
     pub delay: u64,
     pub initial_nack_delay: u64,
     pub default_nack_resend_delay: u64,
-    pub nack_window: u64,
     pub max_entries: usize,
     pub max_gaps: usize,
     pub clock_rate: u32,
@@ -121,7 +120,6 @@ pub fn config_of(c: ConfigWords) -> Config
         initial_nack_delay: c.initial_nack_delay,
         default_nack_resend_delay: c.default_nack_resend_delay,
         max_nack_attempts: c.max_nack_attempts,
-        nack_window: c.nack_window,
     };
     let senders = Senders {
         pt: c.pt,

@@ -255,7 +255,6 @@ rate-small c t =
     ∷ leb (set .delay) longest
     ∷ leb (set .«initial_nack_delay») longest
     ∷ leb (set .«default_nack_resend_delay») longest
-    ∷ leb (set .«nack_window») longest
     ∷ within 1 255 (set .«max_nack_attempts»)
     ∷ [])
     (and-l (settingsValid set) (sendersValid (c .senders)) t) in

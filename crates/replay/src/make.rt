@@ -47,9 +47,6 @@ pub type Remembered = [u64; REMEMBERED];
 
 pub type Numbers = [u16; NUMBERS];
 
-// The Rust's default of the setting that a trace does not carry.
-const NACK_WINDOW: u64 = 200000000;
-
 pub enum Held {
     None,
     Some(Session),
@@ -95,7 +92,6 @@ fn settings_of(f: &Fields) -> Settings {
         initial_nack_delay: f[5],
         default_nack_resend_delay: f[6],
         max_nack_attempts: low32(f[7]),
-        nack_window: NACK_WINDOW,
     }
 }
 
