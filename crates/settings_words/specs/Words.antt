@@ -1,9 +1,9 @@
 -- The settings of a line as plain numbers: what they stand for and how they are written, and the line's reader and writer on them.
 use mathlib.Core.Path.{_≡_}
-use mathlib.Core.Bool.{cond}
+use mathlib.Core.Bool.{Bool, cond, _&&_, _||_}
 use mathlib.Core.List.{List}
 use Prim.Native.Nat.{ℕ}
-use lib.Dec.{ltb}
+use lib.Dec.{eqb, ltb}
 use Rattle.refusals.specs.Refusals.{SETTINGS}
 use Rattle.config.specs.declared.Settings.{Settings}
 use Rattle.config.specs.Mode.{modeOf, modeNumber, dynamicOf}
@@ -78,9 +78,13 @@ outcome answer output = record { answer = answer; output = output }
 abbrev pub inWords : Line.Outcome → Outcome
 inWords o = outcome (wroteWords (o .answer)) (o .output)
 
--- a mode that is none is refused under 1
+-- "The .. last three are 0 outside mode 2": settings of another mode have no place for them, so the words are looked at before they are settings
+unfoldable pub modeFits : SettingsWords → Bool
+modeFits w = eqb (w .mode) 2 || (ltb (w .mode) 2 && (eqb (w .«min_delay») 0 && (eqb (w .«max_delay») 0 && eqb (w .«target_recovery») 0)))
+
+-- a mode that is none, or words that its settings have no place for, are refused under 1
 unfoldable pub writeWords : SettingsWords → List ℕ → Outcome
-writeWords w out = cond (ltb 2 (w .mode)) (outcome (record { refusal = SETTINGS; bytes = 0 }) out) (inWords (writeLine (settingsOf w) out))
+writeWords w out = cond (modeFits w) (inWords (writeLine (settingsOf w) out)) (outcome (record { refusal = SETTINGS; bytes = 0 }) out)
 
 -- What the reader gives, the writer takes for the same settings.
 abbrev pub Kept : Type 0

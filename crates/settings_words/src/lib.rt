@@ -1,15 +1,15 @@
 // The settings of a line as they cross the boundary: plain numbers, no enum. The reader and the writer of the line on them.
 ghost use mathlib.Core.Path.{_≡_};
 ghost use Rattle.config.specs.Mode.{modeNumber};
-ghost use Rattle.settings_words.specs.Words.{settingsOf, wordsOf, noSettings, told, readWords, outcome, wroteWords, writeWords, Kept};
+ghost use Rattle.settings_words.specs.Words.{settingsOf, wordsOf, noSettings, told, readWords, outcome, wroteWords, modeFits, writeWords, Kept};
 use config::RtpInboundQueueMode;
 use config::RtpInboundStreamDynamicConfig;
 use config::Settings;
 use settings_line::ReadSettings;
 use settings_line::WroteSettings;
 
-// `mode` is 0 for Passthrough, 1 for a fixed delay, 2 for a dynamic one. `min_delay`, `max_delay` and `target_recovery` are of mode 2: outside it
-// they are not looked at, and are 0 in what comes back.
+// `mode` is 0 for Passthrough, 1 for a fixed delay, 2 for a dynamic one. `min_delay`, `max_delay` and `target_recovery` are of mode 2 and 0
+// outside it.
 #[repr(C)]
 pub struct SettingsWords {
     pub delay: u64,
@@ -143,11 +143,19 @@ fn write_told(answer: WroteSettings) -> SettingsWritten
     }
 }
 
-// Writes the line of these settings; a mode that is none is refused under 1 too.
+// "The .. last three are 0 outside mode 2": settings of another mode have no place for them.
+fn mode_fits(w: SettingsWords) -> bool
+    ensures { λ r. ⌜ r ≡ modeFits w ⌝ }
+{
+    (w.mode == 2)
+        | ((w.mode < 2) & ((w.min_delay == 0) & ((w.max_delay == 0) & (w.target_recovery == 0))))
+}
+
+// Writes the line of these settings; a mode that is none, or words that its settings have no place for, are refused under 1 too.
 pub fn write(w: SettingsWords, out: &mut [u8]) -> SettingsWritten
     ensures { λ r. ⌜ outcome r (now (out .exit)) ≡ writeWords w (now (out .entry)) ⌝ }
 {
-    if 2 < w.mode {
+    if !mode_fits(w) {
         return SettingsWritten {
             refusal: refusals::SETTINGS,
             bytes: 0,
