@@ -60,7 +60,10 @@ extern "C" {
 #define BIZHGEMU_GAPS(G) (4 * (G))
 #define BIZHGEMU_REMEMBERED 2048
 
-/* Why a call was turned back; `bizhgemu_refusal_text` has it in words. More numbers may come (17 to 21 are planned), so let a
+/* The bytes of a settings line. */
+#define BIZHGEMU_SETTINGS_LINE 145
+
+/* Why a call was turned back; `bizhgemu_refusal_text` has it in words. More numbers may come (17 to 19 are planned), so let a
  * switch have a default. Checks run in the order of docs/USING.md, "Refusals in the field", not of these numbers; there
  * it also says what to do about each. Below, "2 to 7" stands for 2 (under 12 bytes), 3, 2 (CSRCs and extension), 4, 5, 6, 7. */
 enum bizhgemu_refusal {
@@ -80,7 +83,9 @@ enum bizhgemu_refusal {
 	BIZHGEMU_REFUSED_ENTRIES_FULL = 13,       /* repair with 2 * max_entries packets waiting */
 	BIZHGEMU_REFUSED_COUNT = 14,              /* a number, timestamp or counter would pass 2^52 - 1, or a NACK count 2^32 - 1 */
 	BIZHGEMU_REFUSED_OUTPUT = 15,             /* lent output under 320 bytes, or under max_gaps numbers */
-	BIZHGEMU_REFUSED_SESSION = 16             /* session or storage that no call leaves, as far as row 16 sees it, or not of these settings */
+	BIZHGEMU_REFUSED_SESSION = 16,            /* session or storage that no call leaves, as far as row 16 sees it, or not of these settings */
+	BIZHGEMU_REFUSED_SETTINGS_LINE = 20,      /* settings line of another length or without its line feed, or a field that is no number */
+	BIZHGEMU_REFUSED_LINE_VERSION = 21        /* settings line that does not begin with eleven blanks and version 1 or 2 */
 };
 
 /* `mode` of the settings. */
@@ -229,6 +234,32 @@ struct bizhgemu_figures {
 	float loss;      /* 0 to 1; a repaired packet counts as lost */
 };
 
+/* The settings that a line keeps: those of struct bizhgemu_config without its senders, each with the same meaning and range. */
+struct bizhgemu_settings {
+	uint64_t delay;                     /* 0 outside BIZHGEMU_SORTED_QUEUE, or there is no line */
+	uint64_t initial_nack_delay;
+	uint64_t default_nack_resend_delay;
+	uint64_t min_delay;                 /* these three: of mode 2, a dynamic delay, alone; 0 in what is read in another */
+	uint64_t max_delay;
+	uint64_t target_recovery;
+	size_t max_entries;
+	size_t max_gaps;
+	uint32_t clock_rate;
+	uint32_t max_nack_attempts;
+	uint32_t mode;
+};
+
+struct bizhgemu_settings_read {
+	uint64_t refusal;
+	struct bizhgemu_settings settings; /* zeros beside a refusal */
+};
+
+/* `bytes` bytes of the lent output are the line. */
+struct bizhgemu_settings_written {
+	uint64_t refusal;
+	size_t bytes;
+};
+
 /* Lengths of the four arrays, in elements. */
 struct bizhgemu_lengths {
 	uint64_t refusal;
@@ -256,6 +287,9 @@ BIZHGEMU_SIZE(bizhgemu_timeout, 24);
 BIZHGEMU_SIZE(bizhgemu_rtx_stats, 64);
 BIZHGEMU_SIZE(bizhgemu_highest, 24);
 BIZHGEMU_SIZE(bizhgemu_figures, 56);
+BIZHGEMU_SIZE(bizhgemu_settings, 80);
+BIZHGEMU_SIZE(bizhgemu_settings_read, 88);
+BIZHGEMU_SIZE(bizhgemu_settings_written, 16);
 BIZHGEMU_SIZE(bizhgemu_lengths, 40);
 #undef BIZHGEMU_SIZE
 
@@ -269,6 +303,16 @@ uint64_t bizhgemu_version(void);
 
 /* How long the four arrays must be. Refused under 1 where max_entries or max_gaps is out of its range. */
 struct bizhgemu_lengths bizhgemu_lengths(size_t max_entries, size_t max_gaps);
+
+/* Reads settings kept as a line of text: version, mode, clock rate, max_entries, max_gaps, delay, initial_nack_delay,
+ * default_nack_resend_delay, max_nack_attempts, min_delay, max_delay, target_recovery, each decimal and right-justified after blanks in 12
+ * columns, and a line feed, 145 bytes. Version 1 has modes 0 and 1 and in place of the last three one number, which is discarded: 121 bytes.
+ * Refused under 21, 20, 1. */
+struct bizhgemu_settings_read bizhgemu_read_settings(const uint8_t *line, size_t line_len);
+
+/* Writes the line of these settings, always of version 2, to the front of `out`, of at least BIZHGEMU_SETTINGS_LINE bytes; what lies behind it
+ * there is kept. It reads back to the same settings, and no other line of version 2 does. Refused under 1, 15. */
+struct bizhgemu_settings_written bizhgemu_write_settings(struct bizhgemu_settings settings, uint8_t *out, size_t out_len);
 
 /* Opens a session and clears its storage. Refused under 1 for a setting, then under 16 for a length. */
 struct bizhgemu_opened bizhgemu_open(struct bizhgemu_config config, BIZHGEMU_STORAGE);
@@ -350,6 +394,8 @@ static inline const char *bizhgemu_refusal_text(uint64_t refusal)
 	case BIZHGEMU_REFUSED_COUNT: return "a number, timestamp or counter would pass 2^52 - 1, or a NACK count 2^32 - 1";
 	case BIZHGEMU_REFUSED_OUTPUT: return "the lent output is too short";
 	case BIZHGEMU_REFUSED_SESSION: return "session or storage is damaged, or not that of these settings";
+	case BIZHGEMU_REFUSED_SETTINGS_LINE: return "the settings line has the wrong length, no line feed at its end, or a field that is not a number after blanks";
+	case BIZHGEMU_REFUSED_LINE_VERSION: return "the settings line does not begin with eleven blanks and version 1 or 2";
 	default: return "not a refusal of this version";
 	}
 }

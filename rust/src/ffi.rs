@@ -140,8 +140,79 @@ pub struct Lengths {
     pub remembered: usize,
 }
 
+#[repr(C)]
+#[derive(Clone, Copy, Debug, PartialEq)]
+pub struct Settings {
+    pub delay: u64,
+    pub initial_nack_delay: u64,
+    pub default_nack_resend_delay: u64,
+    pub min_delay: u64,
+    pub max_delay: u64,
+    pub target_recovery: u64,
+    pub max_entries: usize,
+    pub max_gaps: usize,
+    pub clock_rate: u32,
+    pub max_nack_attempts: u32,
+    pub mode: u32,
+}
+
+#[repr(C)]
+pub struct SettingsRead {
+    pub refusal: u64,
+    pub settings: Settings,
+}
+
+#[repr(C)]
+pub struct SettingsWritten {
+    pub refusal: u64,
+    pub bytes: usize,
+}
+
+impl Settings {
+    /// Those of a session's settings that a line keeps.
+    pub fn of(config: &Config) -> Settings {
+        Settings {
+            delay: config.delay,
+            initial_nack_delay: config.initial_nack_delay,
+            default_nack_resend_delay: config.default_nack_resend_delay,
+            min_delay: config.min_delay,
+            max_delay: config.max_delay,
+            target_recovery: config.target_recovery,
+            max_entries: config.max_entries,
+            max_gaps: config.max_gaps,
+            clock_rate: config.clock_rate,
+            max_nack_attempts: config.max_nack_attempts,
+            mode: config.mode,
+        }
+    }
+
+    /// The settings of a session with the senders of another.
+    pub fn with_senders(&self, senders: &Config) -> Config {
+        Config {
+            delay: self.delay,
+            initial_nack_delay: self.initial_nack_delay,
+            default_nack_resend_delay: self.default_nack_resend_delay,
+            min_delay: self.min_delay,
+            max_delay: self.max_delay,
+            target_recovery: self.target_recovery,
+            max_entries: self.max_entries,
+            max_gaps: self.max_gaps,
+            clock_rate: self.clock_rate,
+            max_nack_attempts: self.max_nack_attempts,
+            mode: self.mode,
+            ..*senders
+        }
+    }
+}
+
 const _: () = {
     assert!(size_of::<usize>() == 8);
+    assert!(size_of::<Settings>() == 80);
+    assert!(size_of::<SettingsRead>() == 88);
+    assert!(size_of::<SettingsWritten>() == 16);
+    assert!(offset_of!(Settings, min_delay) == 24);
+    assert!(offset_of!(Settings, max_entries) == 48);
+    assert!(offset_of!(Settings, mode) == 72);
     assert!(size_of::<Config>() == 72);
     assert!(size_of::<Session>() == 264);
     assert!(size_of::<Opened>() == 272);
@@ -216,6 +287,8 @@ unsafe extern "C" {
         remembered: *mut u64,
         remembered_len: usize,
     ) -> Opened;
+    pub fn bizhgemu_read_settings(line: *const u8, line_len: usize) -> SettingsRead;
+    pub fn bizhgemu_write_settings(settings: Settings, out: *mut u8, out_len: usize) -> SettingsWritten;
     // Safe: these three take numbers alone, or nothing, and refuse what they cannot use.
     pub safe fn bizhgemu_figures(session: Session) -> Figures;
     pub safe fn bizhgemu_lengths(max_entries: usize, max_gaps: usize) -> Lengths;

@@ -2,6 +2,7 @@
 
 #include "bizhgemu.h"
 
+#include <stddef.h>
 #include <stdio.h>
 #include <string.h>
 
@@ -114,6 +115,42 @@ static void lengths(void)
 		}
 	IS(bizhgemu_lengths(1025, 999).refusal, BIZHGEMU_REFUSED_SETTINGS);
 	IS(bizhgemu_lengths(1, 998).refusal, BIZHGEMU_REFUSED_SETTINGS);
+}
+
+/* The settings line: its fields in their order, what is written behind it, and a line of each refusal. */
+static void settings_line(void)
+{
+	const char fields[] = "           2           2       11000          12        1013           0          15          16           4"
+		"          18          19          20\n";
+	uint8_t line[BIZHGEMU_SETTINGS_LINE + 1];
+	line[BIZHGEMU_SETTINGS_LINE] = 7;
+	struct bizhgemu_settings s;
+	memset(&s, 0, sizeof s);
+	s.mode = 2;
+	s.clock_rate = 11000;
+	s.max_entries = 12;
+	s.max_gaps = 1013;
+	s.initial_nack_delay = 15;
+	s.default_nack_resend_delay = 16;
+	s.max_nack_attempts = 4;
+	s.min_delay = 18;
+	s.max_delay = 19;
+	s.target_recovery = 20;
+	const struct bizhgemu_settings_written w = bizhgemu_write_settings(s, line, sizeof line);
+	IS(w.refusal, 0);
+	IS(w.bytes, BIZHGEMU_SETTINGS_LINE);
+	IS(memcmp(line, fields, BIZHGEMU_SETTINGS_LINE), 0);
+	IS(line[BIZHGEMU_SETTINGS_LINE], 7);
+	const struct bizhgemu_settings_read r = bizhgemu_read_settings(line, BIZHGEMU_SETTINGS_LINE);
+	IS(r.refusal, 0);
+	IS(memcmp(&r.settings, &s, offsetof(struct bizhgemu_settings, mode) + sizeof s.mode), 0);
+	IS(bizhgemu_write_settings(s, line, BIZHGEMU_SETTINGS_LINE - 1).refusal, BIZHGEMU_REFUSED_OUTPUT);
+	IS(bizhgemu_read_settings(line, BIZHGEMU_SETTINGS_LINE - 1).refusal, BIZHGEMU_REFUSED_SETTINGS_LINE);
+	IS(bizhgemu_read_settings(line, 11).refusal, BIZHGEMU_REFUSED_LINE_VERSION);
+	s.delay = 14;
+	IS(bizhgemu_write_settings(s, line, sizeof line).refusal, BIZHGEMU_REFUSED_SETTINGS);
+	s.mode = 3;
+	IS(bizhgemu_write_settings(s, line, sizeof line).refusal, BIZHGEMU_REFUSED_SETTINGS);
 }
 
 static void limits(void)
@@ -305,6 +342,7 @@ int main(void)
 {
 	IS(bizhgemu_version(), BIZHGEMU_VERSION);
 	lengths();
+	settings_line();
 	limits();
 	ranges();
 	defaults();

@@ -15,7 +15,10 @@ pub extern "C" fn bizhgemu_read_settings(line: &[u8]) -> SettingsRead
 
 // Writes the line of these settings, 145 bytes, to the front of `out`: 1, then 15, where none is written.
 #[no_mangle]
-pub extern "C" fn bizhgemu_write_settings(settings: SettingsWords, out: &mut [u8]) -> SettingsWritten
+pub extern "C" fn bizhgemu_write_settings(
+    settings: SettingsWords,
+    out: &mut [u8],
+) -> SettingsWritten
     ensures { λ r. ⌜ outcome r (now (out .exit)) ≡ writeWords settings (now (out .entry)) ⌝ }
 {
     settings_words::write(settings, out)

@@ -12,6 +12,8 @@ pub const USAGE: &str = "usage: listen [OPTION VALUE ..]
 Hears RTP from a UDP port: payloads out in order, a line of figures each second on standard error, and what the figures mean.
 
   --address HOST:PORT  where RTP comes in                            127.0.0.1:5004
+  --settings FILE      settings kept as a line of text (docs/USING.md); options after it change them   none
+  --write-settings FILE  writes the settings as such a line and ends; payload types and senders are not kept   none
   --pt N               payload type of the media                     0
   --ssrc N|any         its sender; any: whoever sends this payload type   any
   --callers N          with --ssrc any: how many senders are heard at a time   1
@@ -73,6 +75,8 @@ pub struct Options {
     pub seconds: Option<Duration>,
     pub wav: Option<String>,
     pub figures: Option<String>,
+    /// Where the settings are to be written.
+    pub write_settings: Option<String>,
     rtx_ssrc: Option<u32>,
     format: Option<Format>,
     channels: Option<u16>,
@@ -91,6 +95,7 @@ impl Options {
             seconds: None,
             wav: None,
             figures: None,
+            write_settings: None,
             rtx_ssrc: None,
             format: None,
             channels: None,
@@ -99,6 +104,10 @@ impl Options {
         while let Some(word) = words.next() {
             let value =
                 words.next().ok_or_else(|| format!("{word}: an option is followed by its value; see listen --help"))?;
+            if word == "--settings" {
+                options.take_settings(&value)?;
+                continue;
+            }
             options
                 .set(&word, &value)
                 .ok_or_else(|| format!("{word} {value}: not an option and its value; see listen --help"))?;
@@ -116,7 +125,7 @@ impl Options {
             "--ssrc" => self.ssrc = Some(number(value)?),
             "--callers" => self.callers = number::<usize>(value).filter(|callers| *callers > 0)?,
             "--clock-rate" => config.clock_rate = number(value)?,
-            "--delay" if value == "none" => config.mode = Mode::Passthrough,
+            "--delay" if value == "none" => (config.mode, config.delay) = (Mode::Passthrough, Duration::ZERO),
             "--delay" => config.delay = Duration::from_millis(number(value)?),
             "--depth" => config.max_entries = number(value)?,
             "--gaps" => config.max_gaps = number(value)?,
@@ -133,10 +142,28 @@ impl Options {
             "--format" => self.format = Some(Format::named(value)?),
             "--channels" => self.channels = Some(number::<u16>(value).filter(|channels| (1..=8).contains(channels))?),
             "--figures" => self.figures = Some(value.into()),
+            "--write-settings" => self.write_settings = Some(value.into()),
             "--seconds" => self.seconds = Some(Duration::from_secs(number(value)?)),
             _ => return None,
         }
         Some(())
+    }
+
+    /// The settings of a file, with the senders that other options gave.
+    fn take_settings(&mut self, file: &str) -> Result<(), String> {
+        let line = std::fs::read(file).map_err(|error| format!("--settings {file}: {error}"))?;
+        let read = Config::from_line(&line).map_err(|error| format!("--settings {file}: {error}"))?;
+        let senders = (self.config.payload_type, self.config.ssrc, self.config.rtx);
+        self.config = read;
+        (self.config.payload_type, self.config.ssrc, self.config.rtx) = senders;
+        Ok(())
+    }
+
+    /// Writes the settings, if that was asked for.
+    pub fn write_settings(&self) -> Option<io::Result<()>> {
+        let file = self.write_settings.as_ref()?;
+        let line = self.config.to_line().map_err(io::Error::other);
+        Some(line.and_then(|line| std::fs::write(file, line)).map_err(|error| of_file(file, error)))
     }
 
     /// What one option says about another.

@@ -139,7 +139,11 @@ impl Report {
             nacked: tally.nacked,
             recovered: tally.recovered,
             not_needed: tally.not_needed,
-            refused: Refusal::all().map(|refusal| tally.refused(refusal)).collect(),
+            // those of a settings line are none of a stream's
+            refused: Refusal::all()
+                .filter(|refusal| refusal.number() < 20)
+                .map(|refusal| tally.refused(refusal))
+                .collect(),
             held: std::mem::replace(&mut self.held, [0; HELD]),
         })
     }
