@@ -9,7 +9,7 @@ use Rattle.rtx_state.specs.declared.OptRtt.{OptRtt}
 use Rattle.rtx_state.specs.declared.OptRtt.the-variants.{None, Some}
 use Rattle.rtx_state.proofs.Range.{delay-lt}
 use Rattle.config.specs.Timings.{resendDelayOf}
-use Rattle.config.specs.Valid.{within, longest, settingsValid}
+use Rattle.config.specs.Valid.{within, longest, mostAttempts, modeValid, settingsValid}
 use Rattle.config.specs.declared.Settings.{Settings}
 
 pub record Usable (s : Settings) : Type 0 where
@@ -24,12 +24,14 @@ pub record Usable (s : Settings) : Type 0 where
   pub resend : s .«default_nack_resend_delay» ≤ longest
   pub window : s .«nack_window» ≤ longest
   pub attempts-some : 1 ≤ s .«max_nack_attempts»
-  pub attempts : s .«max_nack_attempts» ≤ 255
+  pub attempts : s .«max_nack_attempts» ≤ mostAttempts (s .mode)
+  pub mode : T (modeValid (s .mode))
 
--- the parts of a conjunction of eight
-parts : (a b c d e f g h : Bool) → T (a && b && c && d && e && f && g && h) → T a × T b × T c × T d × T e × T f × T g × T h
-parts a b c d e f g h t =
-    let t7 = and-l (a && b && c && d && e && f && g) h t in
+-- the parts of a conjunction of nine
+parts : (a b c d e f g h i : Bool) → T (a && b && c && d && e && f && g && h && i) → T a × T b × T c × T d × T e × T f × T g × T h × T i
+parts a b c d e f g h i t =
+    let t8 = and-l (a && b && c && d && e && f && g && h) i t in
+    let t7 = and-l (a && b && c && d && e && f && g) h t8 in
     let t6 = and-l (a && b && c && d && e && f) g t7 in
     let t5 = and-l (a && b && c && d && e) f t6 in
     let t4 = and-l (a && b && c && d) e t5 in
@@ -42,7 +44,8 @@ parts a b c d e f g h t =
       and-r (a && b && c && d) e t5,
       and-r (a && b && c && d && e) f t6,
       and-r (a && b && c && d && e && f) g t7,
-      and-r (a && b && c && d && e && f && g) h t,
+      and-r (a && b && c && d && e && f && g) h t8,
+      and-r (a && b && c && d && e && f && g && h) i t,
     )
 
 ends : (l h n : ℕ) → T (within l h n) → (l ≤ n) × (n ≤ h)
@@ -52,11 +55,11 @@ pub usable : (s : Settings) → T (settingsValid s) → Usable s
 unfolding settingsValid
 usable s t =
     let p =
-    parts (within 1 1000000 (s .«clock_rate»)) (within 1 1024 (s .«max_entries»)) (within 999 4096 (s .«max_gaps»)) (leb (s .delay) longest) (leb (s .«initial_nack_delay») longest) (leb (s .«default_nack_resend_delay») longest) (leb (s .«nack_window») longest) (within 1 255 (s .«max_nack_attempts»)) t in
+    parts (within 1 1000000 (s .«clock_rate»)) (within 1 1024 (s .«max_entries»)) (within 999 4096 (s .«max_gaps»)) (leb (s .delay) longest) (leb (s .«initial_nack_delay») longest) (leb (s .«default_nack_resend_delay») longest) (leb (s .«nack_window») longest) (within 1 (mostAttempts (s .mode)) (s .«max_nack_attempts»)) (modeValid (s .mode)) t in
     let rate = ends 1 1000000 (s .«clock_rate») (p .0) in
     let entries = ends 1 1024 (s .«max_entries») (p .1) in
     let gaps = ends 999 4096 (s .«max_gaps») (p .2) in
-    let attempts = ends 1 255 (s .«max_nack_attempts») (p .7) in
+    let attempts = ends 1 (mostAttempts (s .mode)) (s .«max_nack_attempts») (p .7) in
     record {
       rate-some = rate .0;
       rate = rate .1;
@@ -70,6 +73,7 @@ usable s t =
       window = leb→le (s .«nack_window») longest (p .6);
       attempts-some = attempts .0;
       attempts = attempts .1;
+      mode = p .8;
     }
 
 pub resend-lt : (s : Settings) (rtt : OptRtt) → s .«default_nack_resend_delay» ≤ longest → T (optRttInRange rtt) → resendDelayOf s rtt < 2 ^ 54

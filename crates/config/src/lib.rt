@@ -2,7 +2,7 @@
 ghost use mathlib.Core.Path.{_≡_};
 ghost use Rattle.config.specs.Timings.{nackTimings, targetDelay};
 ghost use Rattle.config.specs.Mode.{modeOf};
-ghost use Rattle.config.specs.Valid.{depthValid, gapsValid, settingsValid, sendersValid};
+ghost use Rattle.config.specs.Valid.{depthValid, gapsValid, mostAttempts, modeValid, dynamicValid, settingsValid, sendersValid};
 use rtp::Ssrc;
 use rtx_state::OptRtt;
 
@@ -24,14 +24,35 @@ pub const LONGEST: u64 = 60000000000;
 
 const MAX_ATTEMPTS: u32 = 255;
 
+// Those of a dynamic delay (02, point 7).
+const MAX_DYNAMIC_ATTEMPTS: u32 = 4;
+
+// Ten thousandths.
+const MAX_TARGET_RECOVERY: u64 = 9999;
+
 // Seven bits (RFC 3550, 5.1).
 const MAX_PAYLOAD_TYPE: u8 = 127;
 
 pub enum RtpInboundQueueMode {
     // Packets are handed out at once.
     Passthrough,
-    // Packets are put in order and kept for a fixed delay.
-    SortedQueue,
+    // Packets are put in order and kept for a while.
+    SortedQueue(RtpInboundStreamSortedQueueMode),
+}
+
+pub enum RtpInboundStreamSortedQueueMode {
+    // For the delay of the settings.
+    Fixed,
+    // For as long as jitter, loss and round trip ask for.
+    Dynamic(RtpInboundStreamDynamicConfig),
+}
+
+// Durations are nanoseconds.
+pub struct RtpInboundStreamDynamicConfig {
+    pub min: u64,
+    pub max: u64,
+    // 02's t: how many of ten thousand losses the attempts should repair.
+    pub target_recovery: u64,
 }
 
 // Durations are nanoseconds.
@@ -42,7 +63,7 @@ pub struct Settings {
     pub max_entries: usize,
     // 01's G.
     pub max_gaps: usize,
-    // How long a sorted queue keeps a packet.
+    // How long a sorted queue keeps a packet where its delay is fixed.
     pub delay: u64,
     // How long to wait before a gap is NACKed.
     pub initial_nack_delay: u64,
@@ -67,15 +88,17 @@ pub struct NackTimings {
     pub resend: u64,
 }
 
-// The mode that a trace or a word at the boundary names by 0 or 1; the reader of either refuses another number.
-pub fn mode_of(number: u64) -> RtpInboundQueueMode
-    ensures { λ r. ⌜ r ≡ modeOf number ⌝ }
+// The mode that a trace or a word at the boundary names by 0, 1 or 2, with what mode 2 alone has; the reader of either refuses another number.
+pub fn mode_of(number: u64, dynamic: RtpInboundStreamDynamicConfig) -> RtpInboundQueueMode
+    ensures { λ r. ⌜ r ≡ modeOf number dynamic ⌝ }
 {
     if number == 0 {
-        RtpInboundQueueMode::Passthrough
-    } else {
-        RtpInboundQueueMode::SortedQueue
+        return RtpInboundQueueMode::Passthrough;
     }
+    if number == 1 {
+        return RtpInboundQueueMode::SortedQueue(RtpInboundStreamSortedQueueMode::Fixed);
+    }
+    RtpInboundQueueMode::SortedQueue(RtpInboundStreamSortedQueueMode::Dynamic(dynamic))
 }
 
 // "D outside 1 to 1,024" is refused.
@@ -90,6 +113,43 @@ pub fn gaps_valid(gaps: usize) -> bool
     ensures { λ r. ⌜ r ≡ gapsValid gaps ⌝ }
 {
     (MIN_GAPS <= gaps) & (gaps <= MAX_GAPS)
+}
+
+impl RtpInboundStreamDynamicConfig {
+    // A min within max is within the longest duration too.
+    fn is_valid(self) -> bool
+        ensures { λ r. ⌜ r ≡ dynamicValid self ⌝ }
+    {
+        (self.min <= self.max)
+            & (self.max <= LONGEST)
+            & (self.target_recovery <= MAX_TARGET_RECOVERY)
+    }
+}
+
+impl RtpInboundQueueMode {
+    fn max_attempts(self) -> u32
+        ensures { λ r. ⌜ r ≡ mostAttempts self ⌝ }
+    {
+        match self {
+            RtpInboundQueueMode::Passthrough => MAX_ATTEMPTS,
+            RtpInboundQueueMode::SortedQueue(sorted) => match sorted {
+                RtpInboundStreamSortedQueueMode::Fixed => MAX_ATTEMPTS,
+                RtpInboundStreamSortedQueueMode::Dynamic(_) => MAX_DYNAMIC_ATTEMPTS,
+            },
+        }
+    }
+
+    fn is_valid(self) -> bool
+        ensures { λ r. ⌜ r ≡ modeValid self ⌝ }
+    {
+        match self {
+            RtpInboundQueueMode::Passthrough => true,
+            RtpInboundQueueMode::SortedQueue(sorted) => match sorted {
+                RtpInboundStreamSortedQueueMode::Fixed => true,
+                RtpInboundStreamSortedQueueMode::Dynamic(d) => d.is_valid(),
+            },
+        }
+    }
 }
 
 impl Settings {
@@ -116,6 +176,7 @@ impl Settings {
     pub fn is_valid(self) -> bool
         ensures { λ r. ⌜ r ≡ settingsValid self ⌝ }
     {
+        let mode = self.mode;
         ((1 <= self.clock_rate) & (self.clock_rate <= MAX_CLOCK_RATE))
             & depth_valid(self.max_entries)
             & gaps_valid(self.max_gaps)
@@ -123,7 +184,8 @@ impl Settings {
             & (self.initial_nack_delay <= LONGEST)
             & (self.default_nack_resend_delay <= LONGEST)
             & (self.nack_window <= LONGEST)
-            & ((1 <= self.max_nack_attempts) & (self.max_nack_attempts <= MAX_ATTEMPTS))
+            & ((1 <= self.max_nack_attempts) & (self.max_nack_attempts <= mode.max_attempts()))
+            & mode.is_valid()
     }
 }
 
