@@ -12,6 +12,9 @@ pub struct Config {
     pub initial_nack_delay: u64,
     pub default_nack_resend_delay: u64,
     pub nack_window: u64,
+    pub min_delay: u64,
+    pub max_delay: u64,
+    pub target_recovery: u64,
     pub max_entries: usize,
     pub max_gaps: usize,
     pub clock_rate: u32,
@@ -143,29 +146,30 @@ pub struct Lengths {
 
 const _: () = {
     assert!(size_of::<usize>() == 8);
-    assert!(size_of::<Config>() == 80);
-    assert!(size_of::<Session>() == 272);
-    assert!(size_of::<Opened>() == 280);
-    assert!(size_of::<Pushed>() == 288);
+    assert!(size_of::<Config>() == 104);
+    assert!(size_of::<Session>() == 296);
+    assert!(size_of::<Opened>() == 304);
+    assert!(size_of::<Pushed>() == 312);
     assert!(size_of::<Packet>() == 48);
-    assert!(size_of::<Polled>() == 336);
-    assert!(size_of::<PolledNack>() == 288);
+    assert!(size_of::<Polled>() == 360);
+    assert!(size_of::<PolledNack>() == 312);
     assert!(size_of::<Timeout>() == 24);
     assert!(size_of::<RtxStats>() == 64);
     assert!(size_of::<Highest>() == 24);
     assert!(size_of::<Figures>() == 56);
     assert!(size_of::<Lengths>() == 40);
 
-    assert!(offset_of!(Config, max_entries) == 32);
-    assert!(offset_of!(Config, clock_rate) == 48);
-    assert!(offset_of!(Config, rtx_ssrc) == 68);
-    assert!(offset_of!(Config, rtx_pt) == 73);
-    assert!(offset_of!(Session, clock) == 80);
-    assert!(offset_of!(Session, has_rtt) == 136);
-    assert!(offset_of!(Session, dropped) == 192);
-    assert!(offset_of!(Session, jitter_clock_rate_bits) == 224);
-    assert!(offset_of!(Session, entries) == 240);
-    assert!(offset_of!(Session, loss_bits) == 264);
+    assert!(offset_of!(Config, target_recovery) == 48);
+    assert!(offset_of!(Config, max_entries) == 56);
+    assert!(offset_of!(Config, clock_rate) == 72);
+    assert!(offset_of!(Config, rtx_ssrc) == 92);
+    assert!(offset_of!(Config, rtx_pt) == 97);
+    assert!(offset_of!(Session, clock) == 104);
+    assert!(offset_of!(Session, has_rtt) == 160);
+    assert!(offset_of!(Session, dropped) == 216);
+    assert!(offset_of!(Session, jitter_clock_rate_bits) == 248);
+    assert!(offset_of!(Session, entries) == 264);
+    assert!(offset_of!(Session, loss_bits) == 288);
     assert!(offset_of!(Packet, size) == 24);
     assert!(offset_of!(Packet, sequence_number) == 40);
     assert!(offset_of!(Packet, marker) == 43);
