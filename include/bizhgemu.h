@@ -90,26 +90,32 @@ enum bizhgemu_refusal {
 
 /* `mode` of the settings. */
 enum bizhgemu_mode {
-	BIZHGEMU_PASSTHROUGH = 0, /* packets are handed out at once; late ones come out of order */
-	BIZHGEMU_SORTED_QUEUE = 1 /* in order, `delay` after their time */
+	BIZHGEMU_PASSTHROUGH = 0,  /* packets are handed out at once; late ones come out of order */
+	BIZHGEMU_SORTED_QUEUE = 1, /* in order, `delay` after their time */
+	BIZHGEMU_DYNAMIC = 2       /* in order, after their time by a delay that follows jitter, loss and round trip */
 };
 
 /* `answer` to a media packet, and to a repair, where `refusal` is 0. */
 enum bizhgemu_media { BIZHGEMU_QUEUED = 0, BIZHGEMU_DROPPED = 1 };
 enum bizhgemu_repair { BIZHGEMU_RECOVERED = 0, BIZHGEMU_REDUNDANT = 1, BIZHGEMU_TOO_LATE = 2 };
 
-/* The settings. Every field is checked at the opening, used by the mode or not. */
+/* The settings. Every field is checked at the opening, used by the mode or not, but for the three that BIZHGEMU_DYNAMIC alone has. */
 struct bizhgemu_config {
 	/* Durations in nanoseconds, each at most 60,000,000,000. */
 	uint64_t delay;                     /* sorted: from when a packet was due, by its timestamp, to its hand-out */
 	uint64_t initial_nack_delay;        /* from the detection of a gap to its first NACK */
 	uint64_t default_nack_resend_delay; /* from one NACK to the next while no round trip was measured; after that it is the
 	                                     * round trip's own, at least a millisecond */
+	/* Of BIZHGEMU_DYNAMIC alone; in another mode they are not looked at, and are 0 in a session. */
+	uint64_t min_delay;                 /* shortest delay, not above the longest */
+	uint64_t max_delay;                 /* longest delay */
+	uint64_t target_recovery;           /* of ten thousand losses, how many the NACKs are to recover: 0 to 9,999 */
 	/* Sizes: they set the lengths of the storage. */
 	size_t max_entries;                 /* depth D: packets kept, 1 to 1,024 */
 	size_t max_gaps;                    /* G: most missing numbers at a time, 999 to 4,096 */
 	uint32_t clock_rate;                /* of the RTP timestamps, 1 to 1,000,000 Hz */
-	uint32_t max_nack_attempts;         /* NACKs after which passthrough gives a number up, 1 to 255 */
+	uint32_t max_nack_attempts;         /* passthrough: NACKs after which a number is given up, 1 to 255; dynamic: most NACKs that
+	                                     * the delay leaves time for, 1 to 4 */
 	uint32_t mode;                      /* enum bizhgemu_mode */
 	uint32_t has_rtx;                   /* whether the sender answers NACKs by repairs (RFC 4588), 0 or 1 */
 	/* Whose packets the session takes: SSRC, and payload type from 0 to 127, of media and of repairs. */
@@ -276,13 +282,13 @@ struct bizhgemu_lengths {
 #else
 #define BIZHGEMU_SIZE(NAME, BYTES) typedef char NAME##_has_its_size[sizeof(struct NAME) == (BYTES) ? 1 : -1]
 #endif
-BIZHGEMU_SIZE(bizhgemu_config, 72);
-BIZHGEMU_SIZE(bizhgemu_session, 264);
-BIZHGEMU_SIZE(bizhgemu_opened, 272);
-BIZHGEMU_SIZE(bizhgemu_pushed, 280);
+BIZHGEMU_SIZE(bizhgemu_config, 96);
+BIZHGEMU_SIZE(bizhgemu_session, 288);
+BIZHGEMU_SIZE(bizhgemu_opened, 296);
+BIZHGEMU_SIZE(bizhgemu_pushed, 304);
 BIZHGEMU_SIZE(bizhgemu_packet, 48);
-BIZHGEMU_SIZE(bizhgemu_polled, 328);
-BIZHGEMU_SIZE(bizhgemu_polled_nack, 280);
+BIZHGEMU_SIZE(bizhgemu_polled, 352);
+BIZHGEMU_SIZE(bizhgemu_polled_nack, 304);
 BIZHGEMU_SIZE(bizhgemu_timeout, 24);
 BIZHGEMU_SIZE(bizhgemu_rtx_stats, 64);
 BIZHGEMU_SIZE(bizhgemu_highest, 24);
@@ -360,6 +366,9 @@ static inline struct bizhgemu_config bizhgemu_default_config(uint8_t pt, uint32_
 	config.delay = UINT64_C(100000000);
 	config.initial_nack_delay = UINT64_C(5000000);
 	config.default_nack_resend_delay = UINT64_C(20000000);
+	config.min_delay = UINT64_C(10000000);
+	config.max_delay = UINT64_C(400000000);
+	config.target_recovery = 9900;
 	config.max_entries = 100;
 	config.max_gaps = 999;
 	config.clock_rate = 8000;

@@ -175,10 +175,11 @@ fn words(session: &ffi::Session) -> Vec<u64> {
 fn config_words(config: &ffi::Config) -> Vec<u64> {
     let c = config;
     let durations = [c.delay, c.initial_nack_delay, c.default_nack_resend_delay];
+    let dynamic = [c.min_delay, c.max_delay, c.target_recovery];
     let sizes = [c.max_entries as u64, c.max_gaps as u64];
     let words = [c.clock_rate, c.max_nack_attempts, c.mode, c.has_rtx, c.ssrc, c.rtx_ssrc];
     let payload_types = [u64::from(c.pt), u64::from(c.rtx_pt)];
-    [&durations[..], &sizes, &words.map(u64::from), &payload_types].concat()
+    [&durations[..], &dynamic, &sizes, &words.map(u64::from), &payload_types].concat()
 }
 
 #[test]
@@ -197,9 +198,9 @@ fn the_opening_carries_every_setting() {
         rtx: Some(Rtx { payload_type: 21, ssrc: 22 }),
     };
     let session = Queue::open(&config).unwrap().session;
-    let mut expected = vec![12, 15, 16, 13, 1014, 11, 17, 0, 1, 20, 22, 19, 21];
-    expected.resize(37, 0);
-    expected[31] = 11f64.to_bits();
+    let mut expected = vec![12, 15, 16, 0, 0, 0, 13, 1014, 11, 17, 0, 1, 20, 22, 19, 21];
+    expected.resize(40, 0);
+    expected[34] = 11f64.to_bits();
     assert_eq!(words(&session), expected);
 }
 
@@ -231,7 +232,7 @@ fn resize<T: Clone + Default>(slice: &mut Box<[T]>, length: usize) {
 fn flags_that_are_not_flags_are_refused_at_the_opening() {
     let Queue { mut storage, .. } = used();
     let before = storage.clone();
-    for damage in [|c: &mut ffi::Config| c.mode = 2, |c: &mut ffi::Config| c.has_rtx = 3] {
+    for damage in [|c: &mut ffi::Config| c.mode = 3, |c: &mut ffi::Config| c.has_rtx = 3] {
         let mut words = config().words();
         damage(&mut words);
         assert_eq!(storage.open(words).refusal, 1);
@@ -407,7 +408,7 @@ fn set_gaps(l: &mut Lent, first: u64, second: u64) {
 #[rustfmt::skip]
 fn damaged_words_are_refused() {
     each_is_damage(&[
-        ("a flag: mode", |l, past| l.session.config.mode = 1 + past as u32),
+        ("a flag: mode", |l, past| l.session.config.mode = 2 + past as u32),
         ("a flag: RTX", |l, past| l.session.config.has_rtx = 1 + past as u32),
         ("a flag: last packet", |l, past| l.session.has_last = 1 + past),
         ("a flag: last returned", |l, past| l.session.has_returned = 1 << (63 * past)),
@@ -423,6 +424,10 @@ fn damaged_words_are_refused() {
         ("a setting: resend delay", |l, past| l.session.config.default_nack_resend_delay = MINUTE + past),
         ("a setting: no attempt", |l, past| l.session.config.max_nack_attempts = 1 - past as u32),
         ("a setting: attempts", |l, past| l.session.config.max_nack_attempts = 255 + past as u32),
+        ("a dynamic setting: attempts", |l, past| { l.session.config.mode = 2; l.session.config.max_nack_attempts = 4 + past as u32 }),
+        ("a dynamic setting: longest delay", |l, past| { l.session.config.mode = 2; l.session.config.max_delay = MINUTE + past }),
+        ("a dynamic setting: shortest delay", |l, past| { l.session.config.mode = 2; l.session.config.min_delay = past }),
+        ("a dynamic setting: target", |l, past| { l.session.config.mode = 2; l.session.config.target_recovery = 9_999 + past }),
         ("a setting: payload type", |l, past| l.session.config.pt = 127 + past as u8),
         ("a setting: payload type of repairs", |l, past| l.session.config.rtx_pt = 127 + past as u8),
         // in passthrough: there entries and gaps may stand at or below the last returned

@@ -11,6 +11,9 @@ pub struct Config {
     pub delay: u64,
     pub initial_nack_delay: u64,
     pub default_nack_resend_delay: u64,
+    pub min_delay: u64,
+    pub max_delay: u64,
+    pub target_recovery: u64,
     pub max_entries: usize,
     pub max_gaps: usize,
     pub clock_rate: u32,
@@ -213,29 +216,30 @@ const _: () = {
     assert!(offset_of!(Settings, min_delay) == 24);
     assert!(offset_of!(Settings, max_entries) == 48);
     assert!(offset_of!(Settings, mode) == 72);
-    assert!(size_of::<Config>() == 72);
-    assert!(size_of::<Session>() == 264);
-    assert!(size_of::<Opened>() == 272);
-    assert!(size_of::<Pushed>() == 280);
+    assert!(size_of::<Config>() == 96);
+    assert!(size_of::<Session>() == 288);
+    assert!(size_of::<Opened>() == 296);
+    assert!(size_of::<Pushed>() == 304);
     assert!(size_of::<Packet>() == 48);
-    assert!(size_of::<Polled>() == 328);
-    assert!(size_of::<PolledNack>() == 280);
+    assert!(size_of::<Polled>() == 352);
+    assert!(size_of::<PolledNack>() == 304);
     assert!(size_of::<Timeout>() == 24);
     assert!(size_of::<RtxStats>() == 64);
     assert!(size_of::<Highest>() == 24);
     assert!(size_of::<Figures>() == 56);
     assert!(size_of::<Lengths>() == 40);
 
-    assert!(offset_of!(Config, max_entries) == 24);
-    assert!(offset_of!(Config, clock_rate) == 40);
-    assert!(offset_of!(Config, rtx_ssrc) == 60);
-    assert!(offset_of!(Config, rtx_pt) == 65);
-    assert!(offset_of!(Session, clock) == 72);
-    assert!(offset_of!(Session, has_rtt) == 128);
-    assert!(offset_of!(Session, dropped) == 184);
-    assert!(offset_of!(Session, jitter_clock_rate_bits) == 216);
-    assert!(offset_of!(Session, entries) == 232);
-    assert!(offset_of!(Session, loss_bits) == 256);
+    assert!(offset_of!(Config, target_recovery) == 40);
+    assert!(offset_of!(Config, max_entries) == 48);
+    assert!(offset_of!(Config, clock_rate) == 64);
+    assert!(offset_of!(Config, rtx_ssrc) == 84);
+    assert!(offset_of!(Config, rtx_pt) == 89);
+    assert!(offset_of!(Session, clock) == 96);
+    assert!(offset_of!(Session, has_rtt) == 152);
+    assert!(offset_of!(Session, dropped) == 208);
+    assert!(offset_of!(Session, jitter_clock_rate_bits) == 240);
+    assert!(offset_of!(Session, entries) == 256);
+    assert!(offset_of!(Session, loss_bits) == 280);
     assert!(offset_of!(Packet, size) == 24);
     assert!(offset_of!(Packet, sequence_number) == 40);
     assert!(offset_of!(Packet, marker) == 43);

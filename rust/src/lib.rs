@@ -68,7 +68,7 @@ mod version;
 mod boundary_tests;
 
 pub use answers::{Figures, Media, Packet, Repair, RtxStats};
-pub use config::{Config, Mode, Rtx};
+pub use config::{Config, Dynamic, Mode, Rtx};
 pub use header::Header;
 pub use inspect::{Gap, LastReceived, Remembered, RoundTrip, Waiting};
 pub use line::{LINE_BYTES, LineError};

@@ -1,6 +1,6 @@
 //! The public interface.
 
-use bizhgemu::{Clock, Config, Header, Media, Mode, Queue, Refusal, Repair, Rtx};
+use bizhgemu::{Clock, Config, Dynamic, Header, Media, Mode, Queue, Refusal, Repair, Rtx};
 use std::time::{Duration, Instant};
 
 fn datagram(pt: u8, number: u16, timestamp: u32, ssrc: u32, payload: &[u8]) -> Vec<u8> {
@@ -115,9 +115,15 @@ fn a_clock_counts_from_its_start() {
     assert!(clock.now() >= clock.at(after));
 }
 
+fn dynamic(min: u64, max: u64, target_recovery: u64) -> Mode {
+    let mut dynamic = Dynamic::default();
+    (dynamic.min, dynamic.max, dynamic.target_recovery) = (ms(min), ms(max), target_recovery);
+    Mode::Dynamic(dynamic)
+}
+
 #[test]
 fn settings_out_of_range_are_refused() {
-    let faults: [fn(&mut Config); 13] = [
+    let faults: [fn(&mut Config); 17] = [
         |config| config.clock_rate = 0,
         |config| config.clock_rate = 1_000_001,
         |config| config.max_entries = 0,
@@ -129,6 +135,10 @@ fn settings_out_of_range_are_refused() {
         |config| config.default_nack_resend_delay = ms(60_001),
         |config| config.max_nack_attempts = 0,
         |config| config.max_nack_attempts = 256,
+        |config| config.mode = dynamic(20, 60_001, 0),
+        |config| config.mode = dynamic(21, 20, 0),
+        |config| config.mode = dynamic(20, 21, 10_000),
+        |config| (config.mode, config.max_nack_attempts) = (dynamic(20, 21, 9_999), 5),
         |config| config.payload_type = 128,
         |config| config.rtx = Some(Rtx::new(128, 0)),
     ];
@@ -185,7 +195,9 @@ fn other() -> Config {
 
 #[test]
 fn a_queue_tells_its_settings() -> Result<(), Refusal> {
-    for config in [Config::pcmu(3), other()] {
+    let mut satellite = other();
+    satellite.mode = dynamic(30, 700, 9_990);
+    for config in [Config::pcmu(3), other(), satellite] {
         assert_eq!(Queue::open(&config)?.config(), config);
     }
     Ok(())

@@ -181,11 +181,23 @@ static void ranges(void)
 	RANGE(max_gaps, 998);
 	RANGE(clock_rate, 1000001);
 	RANGE(max_nack_attempts, 256);
-	RANGE(mode, BIZHGEMU_SORTED_QUEUE + 1);
+	RANGE(mode, BIZHGEMU_DYNAMIC + 1);
 	RANGE(has_rtx, 2);
 	RANGE(pt, 128);
 	RANGE(rtx_pt, 128);
 #undef RANGE
+#define DYNAMIC_RANGE(field, value) do { \
+	struct bizhgemu_config c = settings(); \
+	c.field = (value); \
+	IS(open_with(c), 0); \
+	c.mode = BIZHGEMU_DYNAMIC; \
+	IS(open_with(c), BIZHGEMU_REFUSED_SETTINGS); \
+} while (0)
+	DYNAMIC_RANGE(min_delay, 400 * MS + 1);
+	DYNAMIC_RANGE(max_delay, 60000 * MS + 1);
+	DYNAMIC_RANGE(target_recovery, 10000);
+	DYNAMIC_RANGE(max_nack_attempts, 5);
+#undef DYNAMIC_RANGE
 	struct bizhgemu_config c = settings();
 	c.max_entries = D + 1;
 	IS(open_with(c), BIZHGEMU_REFUSED_SESSION);

@@ -83,7 +83,7 @@ pub data Ran (c : Config) : View → Type 0 where
 -- "In sorted mode numbers are handed out strictly ascending."
 unfoldable pub InOrder : RtpInboundQueueMode → List ℕ → Type 0
 InOrder Passthrough l = Unit {0}
-InOrder SortedQueue l = T (ascends l)
+InOrder (SortedQueue sorted) l = T (ascends l)
 
 pub record HoldsIn (c : Config) (x : View) : Type 0 where
   -- "two lists of sequence numbers are afterwards equal exactly when no number was forgotten: all from the first accepted media packet to

@@ -16,8 +16,11 @@ modeNumber Passthrough = 0
 modeNumber (SortedQueue Fixed) = 1
 modeNumber (SortedQueue (Dynamic d)) = 2
 
+unfoldable pub noDynamic : RtpInboundStreamDynamicConfig
+noDynamic = record { min = 0; max = 0; «target_recovery» = 0 }
+
 -- zeros outside mode 2, where there is none
 unfoldable pub dynamicOf : RtpInboundQueueMode → RtpInboundStreamDynamicConfig
-dynamicOf Passthrough = record { min = 0; max = 0; «target_recovery» = 0 }
-dynamicOf (SortedQueue Fixed) = record { min = 0; max = 0; «target_recovery» = 0 }
+dynamicOf Passthrough = noDynamic
+dynamicOf (SortedQueue Fixed) = noDynamic
 dynamicOf (SortedQueue (Dynamic d)) = d

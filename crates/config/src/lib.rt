@@ -1,10 +1,19 @@
 // Settings (003) of a session, flat: the opening checks every field, whether the mode uses it or not (01, refusal 1).
 ghost use mathlib.Core.Path.{_≡_};
-ghost use Rattle.config.specs.Timings.{nackTimings, targetDelay};
-ghost use Rattle.config.specs.Mode.{modeOf, modeNumber, dynamicOf};
+ghost use lib.Dec.{T};
+ghost use Rattle.packet_loss.specs.Loss.{lossInRange};
+ghost use Rattle.rtx_state.specs.RoundTrip.{optRttInRange};
+ghost use Rattle.config.specs.Timings.{nackTimings};
+ghost use Rattle.config.specs.Delay.{targetDelay};
+ghost use Rattle.config.specs.Claims.{DelayLaws, NeverRefused};
+ghost use Rattle.config.specs.Mode.{modeOf, modeNumber, noDynamic, dynamicOf};
 ghost use Rattle.config.specs.Valid.{depthValid, gapsValid, mostAttempts, modeValid, dynamicValid, settingsValid, sendersValid};
+use jitter::Jitter;
+use packet_loss::PacketLoss;
 use rtp::Ssrc;
 use rtx_state::OptRtt;
+
+mod dynamic;
 
 // The ranges of refusal 1 (01, "Where a call is turned back").
 
@@ -100,7 +109,7 @@ pub fn mode_of(number: u64, dynamic: RtpInboundStreamDynamicConfig) -> RtpInboun
 }
 
 fn no_dynamic() -> RtpInboundStreamDynamicConfig
-    ensures { λ r. ⌜ r ≡ record { min = 0; max = 0; «target_recovery» = 0 } ⌝ }
+    ensures { λ r. ⌜ r ≡ noDynamic ⌝ }
 {
     RtpInboundStreamDynamicConfig {
         min: 0,
@@ -135,8 +144,8 @@ impl RtpInboundStreamDynamicConfig {
 }
 
 impl RtpInboundQueueMode {
-    // 0, 1 or 2, as `mode_of` takes it.
-    pub fn number(self) -> u64
+    // What `mode_of` reads.
+    pub fn number(self) -> u32
         ensures { λ r. ⌜ r ≡ modeNumber self ⌝ }
     {
         match self {
@@ -148,7 +157,7 @@ impl RtpInboundQueueMode {
         }
     }
 
-    // What mode 2 has; zeros outside it.
+    // What a dynamic delay has, and zeros in another mode.
     pub fn dynamic(self) -> RtpInboundStreamDynamicConfig
         ensures { λ r. ⌜ r ≡ dynamicOf self ⌝ }
     {
@@ -200,10 +209,21 @@ impl Settings {
         }
     }
 
-    pub fn target_delay(self) -> u64
-        ensures { λ r. ⌜ r ≡ targetDelay self ⌝ }
+    // How long a packet is kept.
+    pub fn target_delay(self, jitter: Jitter, loss: PacketLoss, rtt: OptRtt) -> u64
+        requires { ⌜ T (settingsValid self) × T (lossInRange loss) × T (optRttInRange rtt) ⌝ }
+        ensures { λ r. ⌜ r ≡ targetDelay self jitter loss rtt ⌝ }
     {
-        self.delay
+        let mode = self.mode;
+        match mode {
+            RtpInboundQueueMode::Passthrough => 0,
+            RtpInboundQueueMode::SortedQueue(sorted) => match sorted {
+                RtpInboundStreamSortedQueueMode::Fixed => self.delay,
+                RtpInboundStreamSortedQueueMode::Dynamic(d) => {
+                    dynamic::delay(d, self.max_nack_attempts, jitter, loss, rtt)
+                }
+            },
+        }
     }
 
     // Refusal 1's test.
@@ -230,3 +250,13 @@ impl Senders {
         (self.pt <= MAX_PAYLOAD_TYPE) & (self.rtx_pt <= MAX_PAYLOAD_TYPE)
     }
 }
+
+// ---- theorems
+
+fn delay_laws()
+    ensures { λ _. ⌜ DelayLaws ⌝ }
+{}
+
+fn never_refused()
+    ensures { λ _. ⌜ NeverRefused ⌝ }
+{}

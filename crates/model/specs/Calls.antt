@@ -7,15 +7,11 @@ use Rattle.words.specs.Words.{over}
 use Rattle.rtp.specs.Numbers.{lowBits}
 use Rattle.rtp.specs.declared.opt.Opt.{Opt}
 use Rattle.stats.specs.declared.OptRtxStats.{OptRtxStats}
-use Rattle.config.specs.declared.RtpInboundQueueMode.{RtpInboundQueueMode}
-use Rattle.config.specs.declared.RtpInboundQueueMode.the-variants.{Passthrough, SortedQueue}
-use Rattle.config.specs.declared.Settings.{Settings}
-use Rattle.config.specs.Timings.{targetDelay}
 use Rattle.model.specs.declared.Queue.{Queue}
 use Rattle.model.specs.Records.{Entry, State, highestOf}
 use Rattle.model.specs.Rules.{Place, waits}
 use Rattle.model.specs.Push.{mediaEntry, mediaPlace, afterMedia, Fate, repairEntry, repairFate, afterRepair}
-use Rattle.model.specs.Poll.{goingOut, afterPoll, dueGaps, nackNumbers, nackEntries, afterPollNack, receiveTimeout, timingsOf, nackTimeout, repairFigures}
+use Rattle.model.specs.Poll.{delayOf, goingOut, afterPoll, dueGaps, nackNumbers, nackEntries, afterPollNack, receiveTimeout, timingsOf, nackTimeout, repairFigures}
 
 -- A call with its own arguments: `now`, then the datagram, or the lent output.
 pub data Call : Type 0 where
@@ -71,13 +67,9 @@ taken highestReceived s = s
 
 -- ---- what it answers
 
-unfoldable pub delayIn : RtpInboundQueueMode → Settings → ℕ
-delayIn Passthrough set = 0
-delayIn SortedQueue set = targetDelay set
-
 unfoldable pub packetOf : Queue → Entry → Packet
 packetOf q e =
-    record { pt = q .config .senders .pt; number = lowBits 16 (e .number); timestamp = lowBits 32 (e .timestamp); ssrc = q .config .senders .ssrc .0; marker = e .marker; arrival = e .arrival; delay = delayIn (q .config .settings .mode) (q .config .settings); size = length (e .payload) }
+    record { pt = q .config .senders .pt; number = lowBits 16 (e .number); timestamp = lowBits 32 (e .timestamp); ssrc = q .config .senders .ssrc .0; marker = e .marker; arrival = e .arrival; delay = delayOf q; size = length (e .payload) }
 
 unfoldable pub handed : Queue → List Entry → Answer
 handed q [] = nothing
@@ -98,7 +90,7 @@ answered (repair now d) s = repaired (repairFate s (repairEntry d (s .queue) .nu
 answered (poll now out) s = handed (s .queue) (goingOut now s (s .entries))
 answered (pollNack now out) s = nackAnswer (length (dueGaps now (s .queue) (s .gaps)))
 answered (nackWire now out) s = wire (length (nackEntries now s))
-answered (timeoutReceive now) s = timeout (receiveTimeout (s .queue .config .settings .mode) (s .queue .config .settings) (s .queue .last) (s .entries) now)
+answered (timeoutReceive now) s = timeout (receiveTimeout (s .queue) (s .entries) now)
 answered (timeoutNack now) s = timeout (nackTimeout (timingsOf (s .queue)) now (s .gaps))
 answered rtxStats s = stats (repairFigures (s .queue))
 answered highestReceived s = highest (highestOf (s .queue .last))

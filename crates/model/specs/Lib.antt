@@ -5,6 +5,7 @@ pub mod Rules
 pub mod Shared
 pub mod Push
 pub mod Poll
+pub mod Delay
 pub mod Storage
 pub mod Valid
 pub mod Calls

@@ -1,6 +1,7 @@
 // The records of the queue (000) as they go in and come back by value, beside the storage that the caller lends. No code: specs/
 // holds what the queue is, for the contracts and for the theorem over every list of calls alike.
 ghost use Rattle.model.specs.Across.{FlippedAcross};
+ghost use Rattle.model.specs.Delay.{JitterAlone};
 ghost use Rattle.model.specs.Flipped.{FlippedBit};
 ghost use Rattle.model.specs.OnTheWire.{OnTheWire};
 ghost use Rattle.model.specs.Shared.{SharedRules};
@@ -91,4 +92,9 @@ pub fn unaltered()
 // The rules that queue and book share, held to 01's numbers without the one or the other.
 pub fn shared_rules()
     ensures { λ r. ⌜ SharedRules ⌝ }
+{}
+
+// Without RTX, or without an estimate, the delay rests on the jitter alone (02, point 7).
+pub fn jitter_alone()
+    ensures { λ r. ⌜ JitterAlone ⌝ }
 {}

@@ -9,7 +9,7 @@ use Rattle.words.specs.Order.{ascends}
 use Rattle.model.specs.declared.Session.{Session}
 use Rattle.model.specs.Records.{Gap, State, gapNumbers}
 use Rattle.model.specs.Rules.{MAX-LOST-NACKED, givenUp, notGivenUp}
-use Rattle.model.specs.Poll.{drainedQueue, drained, handsOut, goingOut, lostUnder}
+use Rattle.model.specs.Poll.{delayOf, drainedQueue, drained, handsOut, goingOut, lostUnder}
 use Rattle.model.specs.Storage.{Storage, Stored, REMEMBERED-WORDS, entryWords, payloadBytes, gapWords, rememberedWords, gapsOf, write}
 use Rattle.packet_gaps.specs.Gaps.{GapsIn}
 use Rattle.entries.specs.Entries.{EntriesIn}
@@ -41,8 +41,8 @@ drainedSession now s gaps =
     let set = s .queue .config .settings in
     record { queue = drainedQueue now (s .queue) gaps; entries = s .entries; gaps = length (notGivenUp set gaps); remembered = s .remembered }
 
--- what `poll` does, by counts: the gaps given up, whether the front entry goes out, and the gaps lost below it
+-- what `poll` does, by counts: the gaps given up, the delay, whether the front entry goes out, and the gaps lost below it
 unfoldable pub effectFor : ℕ → State → Effect
 effectFor now s =
     let set = s .queue .config .settings in
-    record { given = length (givenUp set (s .gaps)); «goes_out» = handsOut now (s .queue) (s .entries); lost = length (lostUnder (set .mode) (goingOut now s (s .entries)) (drained now s .gaps)) }
+    record { given = length (givenUp set (s .gaps)); delay = delayOf (s .queue); «goes_out» = handsOut now (s .queue) (s .entries); lost = length (lostUnder (set .mode) (goingOut now s (s .entries)) (drained now s .gaps)) }

@@ -310,7 +310,8 @@ impl Receiver {
         }
         // the session's own settings: those of the receiver may already be the next one's
         let config = self.queue.config();
-        let delay = if config.mode == Mode::Passthrough { Duration::ZERO } else { config.delay };
+        // a dynamic delay is told with the packets that `poll` hands out, and these are not
+        let delay = if config.mode == Mode::SortedQueue { config.delay } else { Duration::ZERO };
         let waiting = self.queue.waiting().map(|waiting| {
             let out = Out {
                 received_at: waiting.received_at.map(|received| self.start + received),

@@ -51,7 +51,7 @@ unfolding lostUnder
 below c =
     let s = start c in
     let a = s .args in
-    s .pre .1 .1 ∙ ap (λ (l : List Entry). length (lostUnder (a .s .queue .config .settings .mode) l (gapsOf (a .gaps .now) (a .s .gaps)))) (c .pop-front .ensures .0)
+    s .pre .1 .1 .0 ∙ ap (λ (l : List Entry). length (lostUnder (a .s .queue .config .settings .mode) l (gapsOf (a .gaps .now) (a .s .gaps)))) (c .pop-front .ensures .0)
 
 -- no more are lost than there are
 few : (c : tie.After-pop-front) → start c .args .lost ≤ start c .args .s .gaps
