@@ -16,7 +16,7 @@ use Rattle.config.specs.declared.RtpInboundStreamSortedQueueMode.the-variants.{
 use Rattle.config.specs.declared.RtpInboundQueueMode.{RtpInboundQueueMode}
 use Rattle.config.specs.declared.RtpInboundQueueMode.the-variants.{Passthrough, SortedQueue}
 use Rattle.config.specs.declared.Settings.{Settings}
-use Rattle.config.specs.Mode.{modeOf, modeNumber, dynamicOf}
+use Rattle.config.specs.Mode.{modeOf, modeNumber, noDynamic, dynamicOf}
 use Rattle.config.specs.Valid.{longest, mostAttempts, dynamicValid, modeValid, settingsValid}
 use Rattle.config.proofs.Facts.{Usable, usable}
 use Rattle.settings_line.specs.Fields.{numbersOf, settingsOf, zerosOutside}
@@ -83,7 +83,7 @@ all-eleven ns l = sym (take-all 11 ns (omega arith)) ∙ by-places 11 0 ns (omeg
 -- what mode 2 has, read and written: outside it, zeros
 dynamic-back : (n min max t : ℕ) → n ≤ 2 → (eqb n 2 || (eqb min 0 && eqb max 0 && eqb t 0)) ≡ true
     → dynamicOf (modeOf n (record { min = min; max = max; «target_recovery» = t })) ≡ record { min = min; max = max; «target_recovery» = t }
-unfolding modeOf dynamicOf
+unfolding modeOf noDynamic dynamicOf
 dynamic-back zero min max t h e =
     let p = both (eqb min 0 && eqb max 0) (eqb t 0) e in
     let q = both (eqb min 0) (eqb max 0) (p .0) in
@@ -116,7 +116,7 @@ record Own (d : RtpInboundStreamDynamicConfig) : Type 0 where
   target-most : d .«target_recovery» ≤ 9999
 
 own : (m : RtpInboundQueueMode) → T (modeValid m) → Own (dynamicOf m)
-unfolding modeValid dynamicValid dynamicOf
+unfolding modeValid dynamicValid noDynamic dynamicOf
 own Passthrough t = record { min-most = omega arith; max-most = omega arith; target-most = omega arith }
 own (SortedQueue Fixed) t = record { min-most = omega arith; max-most = omega arith; target-most = omega arith }
 own (SortedQueue (Dynamic d)) t =

@@ -192,7 +192,7 @@ fn numbers(s: Settings) -> [u64; 11]
     let mode = s.mode;
     let dynamic = mode.dynamic();
     [
-        mode.number(),
+        wide(mode.number()),
         wide(s.clock_rate),
         wide_size(s.max_entries),
         wide_size(s.max_gaps),

@@ -1,8 +1,6 @@
 // The settings of a line as they cross the boundary: plain numbers, no enum. The reader and the writer of the line on them.
 ghost use mathlib.Core.Path.{_≡_};
-ghost use Rattle.config.specs.Mode.{modeNumber};
 ghost use Rattle.settings_words.specs.Words.{settingsOf, wordsOf, noSettings, told, readWords, outcome, wroteWords, modeFits, writeWords, Kept};
-use config::RtpInboundQueueMode;
 use config::RtpInboundStreamDynamicConfig;
 use config::Settings;
 use settings_line::ReadSettings;
@@ -41,12 +39,6 @@ pub struct SettingsWritten {
 
 // ---- read
 
-fn mode_word(mode: RtpInboundQueueMode) -> u32
-    ensures { λ r. ⌜ r ≡ modeNumber mode ⌝ }
-{
-    mode.number() as u32
-}
-
 fn words_of(s: Settings) -> SettingsWords
     ensures { λ r. ⌜ r ≡ wordsOf s ⌝ }
 {
@@ -63,7 +55,7 @@ fn words_of(s: Settings) -> SettingsWords
         max_gaps: s.max_gaps,
         clock_rate: s.clock_rate,
         max_nack_attempts: s.max_nack_attempts,
-        mode: mode_word(mode),
+        mode: mode.number(),
     }
 }
 

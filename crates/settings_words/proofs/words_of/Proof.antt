@@ -7,12 +7,12 @@ use Rattle.settings_words.proofs.words_of.Tie as tie
 dynamic-requires : tie.Need-dynamic-requires
 dynamic-requires c κs = search needs
 
-mode-word-requires : tie.Need-mode-word-requires
-mode-word-requires c κs = search needs
+number-requires : tie.Need-number-requires
+number-requires c κs = search needs
 
 returns : tie.Need-returns
 unfolding wordsOf
-returns c = rw (c .mode-word .ensures, c .before .dynamic .ensures)
+returns c = rw (c .number .ensures, c .before .dynamic .ensures)
 
 pub words-of-spec : {M : Type 1} → statement M
-words-of-spec = tie.close (tie.spec dynamic-requires mode-word-requires returns)
+words-of-spec = tie.close (tie.spec dynamic-requires number-requires returns)
