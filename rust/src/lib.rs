@@ -60,6 +60,7 @@ mod inspect;
 mod queue;
 mod receiver;
 mod refusal;
+pub mod rtcp;
 mod time;
 mod version;
 
@@ -70,7 +71,7 @@ pub use answers::{Figures, Media, Packet, Repair, RtxStats};
 pub use config::{Config, Mode, Rtx};
 pub use header::Header;
 pub use inspect::{Gap, LastReceived, Remembered, RoundTrip, Waiting};
-pub use queue::Queue;
+pub use queue::{Queue, read_nacks};
 pub use receiver::{Event, Heard, Receiver, Rules, Sender, Taken, Tally, Why};
 pub use refusal::Refusal;
 #[cfg(feature = "std")]

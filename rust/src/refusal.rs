@@ -40,10 +40,12 @@ pub enum Refusal {
     /// 16: session or storage is damaged. [`Queue`](crate::Queue) owns both, so memory was overwritten from elsewhere, or floats
     /// were not rounded to nearest.
     Session,
+    /// 17: the entries of a NACK are not a multiple of 4 bytes.
+    NackEntries,
 }
 
 /// Every refusal with what it means and what to do about it.
-const TABLE: [(Refusal, &str, &str); 16] = [
+const TABLE: [(Refusal, &str, &str); 17] = [
     (
         Refusal::Settings,
         "a setting is out of its range",
@@ -114,12 +116,18 @@ const TABLE: [(Refusal, &str, &str); 16] = [
     (
         Refusal::Output,
         "the lent output is too short",
-        "lend `poll` at least 320 bytes and `poll_nack` at least `max_gaps` numbers",
+        "lend `poll` at least 320 bytes, `poll_nack` `max_gaps` numbers, `nack_wire` 4 bytes for each of them, `read_nacks` 17 numbers for \
+         each four bytes",
     ),
     (
         Refusal::Session,
         "session or storage is damaged, or not that of these settings",
         "open a new session; memory was overwritten, storage of another session was lent, or floats were not rounded to nearest",
+    ),
+    (
+        Refusal::NackEntries,
+        "the entries of a NACK are not a multiple of 4 bytes",
+        "drop the packet; it was cut, or is no generic NACK (RFC 4585, section 6.2.1)",
     ),
 ];
 
@@ -132,7 +140,7 @@ impl Refusal {
         TABLE.iter().map(|(refusal, ..)| *refusal)
     }
 
-    /// The number of the refusal: 1 to 16 today.
+    /// The number of the refusal: 1 to 17 today.
     pub fn number(self) -> u8 {
         self as u8
     }
@@ -189,14 +197,14 @@ mod tests {
             assert_eq!(Refusal::from_number(u64::from(refusal.number())), Some(refusal));
         }
         assert_eq!(Refusal::from_number(0), None);
-        assert_eq!(Refusal::from_number(17), None);
+        assert_eq!(Refusal::from_number(18), None);
         assert_eq!(Refusal::from_number(u64::MAX), None);
     }
 
     #[test]
     fn each_says_its_number_and_has_a_meaning_of_its_own() {
         let meanings: BTreeSet<_> = Refusal::all().map(Refusal::meaning).collect();
-        assert_eq!(meanings.len(), 16);
+        assert_eq!(meanings.len(), 17);
         for (refusal, number) in Refusal::all().zip(1..) {
             let text = refusal.to_string();
             let words = text.strip_prefix(&format!("refused under {number}: ")).expect("the number stands first");
