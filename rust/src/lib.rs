@@ -71,7 +71,7 @@ pub use answers::{Figures, Media, Packet, Repair, RtxStats};
 pub use config::{Config, Mode, Rtx};
 pub use header::Header;
 pub use inspect::{Gap, LastReceived, Remembered, RoundTrip, Waiting};
-pub use queue::{Queue, read_nacks};
+pub use queue::{Queue, read_nacks, read_nacks_into};
 pub use receiver::{Event, Heard, Receiver, Rules, Sender, Taken, Tally, Why};
 pub use refusal::Refusal;
 #[cfg(feature = "std")]

@@ -268,17 +268,24 @@ impl Queue {
     ///
     /// [`Refusal::Clock`] (8), [`Refusal::Count`] (14).
     pub fn nack_wire(&mut self, now: Duration) -> Result<&[u8], Refusal> {
-        let polled = lend!(
-            bizhgemu_nack_wire,
-            self.session,
-            self.storage,
-            nanoseconds(now),
-            self.wire.as_mut_ptr(),
-            self.wire.len()
-        );
+        let mut wire = core::mem::take(&mut self.wire);
+        let bytes = self.nack_wire_into(now, &mut wire);
+        self.wire = wire;
+        Ok(&self.wire[..bytes?])
+    }
+
+    /// The same into bytes of your own, 4 for each of [`Config::max_gaps`] at least; answers how many were written. Those after them are
+    /// kept.
+    ///
+    /// # Errors
+    ///
+    /// [`Refusal::Output`] (15), [`Refusal::Clock`] (8), [`Refusal::Count`] (14).
+    pub fn nack_wire_into(&mut self, now: Duration, out: &mut [u8]) -> Result<usize, Refusal> {
+        let polled =
+            lend!(bizhgemu_nack_wire, self.session, self.storage, nanoseconds(now), out.as_mut_ptr(), out.len());
         Refusal::check(polled.refusal)?;
         self.session = polled.session;
-        Ok(&self.wire[..polled.bytes])
+        Ok(polled.bytes)
     }
 
     /// The time from `now` until [`poll`](Queue::poll) should be called; none while nothing waits. It may hand out nothing then.
@@ -379,13 +386,21 @@ impl Queue {
 /// [`Refusal::NackEntries`] (17) where the bytes are not a multiple of 4.
 pub fn read_nacks(entries: &[u8]) -> Result<Vec<u16>, Refusal> {
     let mut numbers = vec![0; NUMBERS * (entries.len() / ENTRY_BYTES)];
-    // SAFETY: two live slices of the lengths passed, each of another allocation; the function asks nothing else.
-    let read = unsafe {
-        ffi::bizhgemu_read_nacks(entries.as_ptr(), entries.len(), numbers.as_mut_ptr(), numbers.len())
-    };
-    Refusal::check(read.refusal)?;
-    numbers.truncate(read.numbers);
+    let many = read_nacks_into(entries, &mut numbers)?;
+    numbers.truncate(many);
     Ok(numbers)
+}
+
+/// The same into a list of your own, of 17 numbers for each four bytes at least; answers how many were written. Those after them are kept.
+///
+/// # Errors
+///
+/// [`Refusal::Output`] (15), [`Refusal::NackEntries`] (17).
+pub fn read_nacks_into(entries: &[u8], out: &mut [u16]) -> Result<usize, Refusal> {
+    // SAFETY: two live slices of the lengths passed, which do not overlap; the function asks nothing else.
+    let read = unsafe { ffi::bizhgemu_read_nacks(entries.as_ptr(), entries.len(), out.as_mut_ptr(), out.len()) };
+    Refusal::check(read.refusal)?;
+    Ok(read.numbers)
 }
 
 impl fmt::Debug for Queue {
