@@ -452,6 +452,7 @@ fn set_most_gaps(l: &mut Lent, most: u64) {
     l.session.config.max_gaps = most as usize;
     resize(&mut l.storage.gaps, 4 * most as usize);
     l.numbers.resize(most as usize, 0xaaaa);
+    l.wire.resize(ENTRY_BYTES * most as usize, 0xaa);
 }
 
 /// Every place in use: G gaps, 2 · D entries above them, 1,024 remembered.

@@ -31,10 +31,10 @@ impl Chance {
 }
 
 /// Words of the session and the lists; what is lent to the calls is not among them.
-fn all_of(queue: &Queue) -> String {
+fn alike(one: &Queue, other: &Queue) -> bool {
     let lists =
-        (queue.waiting().collect::<Vec<_>>(), queue.gaps().collect::<Vec<_>>(), queue.remembered().collect::<Vec<_>>());
-    format!("{queue:?} {lists:?}")
+        one.waiting().eq(other.waiting()) && one.gaps().eq(other.gaps()) && one.remembered().eq(other.remembered());
+    lists && format!("{one:?}") == format!("{other:?}")
 }
 
 /// Whether the entries are those of 02: each begins at the first number not yet named and names every one of its sixteen. (The numbers
@@ -54,7 +54,7 @@ fn pairs(numbers: &[u16]) -> Vec<u8> {
 #[test]
 fn the_entries_name_what_poll_nack_names_and_the_queue_goes_on_alike() {
     let mut longest = 0;
-    for seed in 0..60 {
+    for seed in 0..24 {
         let mut chance = Chance(seed);
         let mut config = Config::pcmu(42);
         config.rtx = Some(Rtx::new(99, 44));
@@ -62,7 +62,7 @@ fn the_entries_name_what_poll_nack_names_and_the_queue_goes_on_alike() {
         let (mut plain, mut wire) = (Queue::open(&config).unwrap(), Queue::open(&config).unwrap());
         let (mut number, mut now) = (65_000u16.wrapping_add(seed as u16 * 20), 0);
         let loss = 1 + chance.below(60);
-        for _ in 0..600 {
+        for _ in 0..400 {
             now += chance.below(12);
             number = number.wrapping_add(1 + if chance.below(100) < loss { chance.below(40) as u16 } else { 0 });
             assert_eq!(plain.push(ms(now), &datagram(number)), wire.push(ms(now), &datagram(number)));
@@ -82,7 +82,7 @@ fn the_entries_name_what_poll_nack_names_and_the_queue_goes_on_alike() {
             }
             let after = wire.poll(ms(now)).unwrap().map(|packet| packet.sequence_number);
             assert_eq!(plain.poll(ms(now)).unwrap().map(|packet| packet.sequence_number), after);
-            assert_eq!(all_of(&plain), all_of(&wire));
+            assert!(alike(&plain, &wire));
         }
     }
     assert!(longest > 40, "{longest}");
