@@ -36,20 +36,29 @@ fn queue(gaps: usize, apart: u16) -> Queue {
     queue
 }
 
-/// The entries of a generic NACK, as a host would make them of numbers: each begins at the first not yet named.
+/// The entries of a generic NACK, as a host would make them of numbers: each begins at the first not yet named, and is written when it is
+/// whole.
 fn pack(numbers: &[u16], out: &mut [u8]) -> usize {
-    let (mut bytes, mut first, mut mask) = (0, 0u16, 0u16);
-    for &number in numbers {
+    let mut bytes = 0;
+    let mut put = |first: u16, mask: u16| {
+        out[bytes..bytes + 2].copy_from_slice(&first.to_be_bytes());
+        out[bytes + 2..bytes + 4].copy_from_slice(&mask.to_be_bytes());
+        bytes += 4;
+    };
+    let Some((&number, others)) = numbers.split_first() else {
+        return 0;
+    };
+    let (mut first, mut mask) = (number, 0);
+    for &number in others {
         let above = number.wrapping_sub(first);
-        if bytes > 0 && above <= 16 {
+        if above <= 16 {
             mask |= 1 << (above - 1);
         } else {
+            put(first, mask);
             (first, mask) = (number, 0);
-            bytes += 4;
         }
-        out[bytes - 4..bytes - 2].copy_from_slice(&first.to_be_bytes());
-        out[bytes - 2..bytes].copy_from_slice(&mask.to_be_bytes());
     }
+    put(first, mask);
     bytes
 }
 
@@ -75,7 +84,11 @@ fn row(gaps: usize, (pattern, apart): (&str, u16)) {
     assert_eq!(out[..packed], entries);
     let [mut numbered, mut by_hand, mut wire] = [f64::INFINITY; 3];
     for _ in 0..BATCHES {
-        numbered = numbered.min(batch(&queue, |queue| black_box(queue.poll_nack(now)).expect("accepted").len(), numbers.len()));
+        numbered = numbered.min(batch(
+            &queue,
+            |queue| black_box(queue.poll_nack(now)).expect("accepted").len(),
+            numbers.len(),
+        ));
         let pack = |queue: &mut Queue| pack(black_box(queue.poll_nack(now)).expect("accepted"), black_box(&mut out));
         by_hand = by_hand.min(batch(&queue, pack, entries.len()));
         wire = wire.min(batch(&queue, |queue| black_box(queue.nack_wire(now)).expect("accepted").len(), entries.len()));

@@ -74,7 +74,7 @@ fn the_entries_name_what_poll_nack_names_and_the_queue_goes_on_alike() {
             assert_eq!(read_nacks(&entries).unwrap(), numbers);
             assert_eq!(entries, pairs(&numbers));
             longest = longest.max(entries.len());
-            for lost in numbers.into_iter().filter(|_| chance.below(3) > 0) {
+            for lost in numbers.into_iter().filter(|_| chance.below(3) > 0).take(20) {
                 assert_eq!(plain.push_rtx(ms(now), &repair(lost)), wire.push_rtx(ms(now), &repair(lost)));
             }
             while chance.below(2) > 0 && plain.poll(ms(now)).unwrap().is_some() {
@@ -158,11 +158,11 @@ fn a_receiver_asks_for_the_same_by_packets_and_counts_alike() {
 #[test]
 fn what_does_not_fit_one_datagram_goes_in_several() {
     let mut config = Config::pcmu(42);
-    (config.mode, config.max_gaps) = (Mode::Passthrough, 4096);
+    (config.mode, config.max_entries) = (Mode::Passthrough, 1);
     let mut receiver = Receiver::open(&config, Rules::default(), ms(0)).unwrap();
     // one in 18 is lost: an entry to each
     let mut lost = Vec::new();
-    for number in 0..11_000u16 {
+    for number in 0..5_600u16 {
         if number % 18 == 17 {
             lost.push(number);
             continue;
@@ -172,9 +172,9 @@ fn what_does_not_fit_one_datagram_goes_in_several() {
     }
     let datagrams = receiver.nack_packets(ms(5), &Reporter::reduced_size(7));
     // the last may not be seen to be missing
-    lost.retain(|number| *number < 10_999);
-    assert_eq!(lost.len(), 611);
-    assert_eq!(datagrams.iter().map(Vec::len).collect::<Vec<_>>(), [1200, 1200, 12 + 4 * (611 - 2 * 297)]);
+    lost.retain(|number| *number < 5_599);
+    assert_eq!(lost.len(), 311);
+    assert_eq!(datagrams.iter().map(Vec::len).collect::<Vec<_>>(), [1200, 12 + 4 * (311 - 297)]);
     assert_eq!(asked(&datagrams), lost);
     assert_eq!(receiver.nack_packets(ms(5), &Reporter::reduced_size(7)), Vec::<Vec<u8>>::new());
 }
