@@ -224,6 +224,7 @@ fn put(datagram: &mut Vec<u8>, count: u8, kind: u8, rest: &[u8]) {
 }
 
 #[cfg(test)]
+#[allow(clippy::unusual_byte_groupings)] // bits stand as the RFCs draw them
 mod tests {
     use super::*;
 

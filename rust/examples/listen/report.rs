@@ -6,6 +6,8 @@ use std::time::Duration;
 
 /// Media packets dropped one after the other from which on the sender is taken to have restarted.
 const RESTART: u64 = 25;
+/// Numbers NACKed from which on a sender that repaired none is taken not to hear them.
+const UNANSWERED: u64 = 20;
 
 /// What the queue does not count by itself.
 pub struct Report {
@@ -193,7 +195,7 @@ impl Report {
             signs.push(format!("{} dropped in a row: the sender restarted", self.dropped_in_a_row));
         }
         signs.extend(self.depth_sign(figures, config));
-        signs.extend(self.nack_sign(figures, queue));
+        signs.extend(self.nack_sign(figures, queue, config));
         signs.extend(self.clock_rate_sign(queue, config));
         signs
     }
@@ -236,8 +238,19 @@ impl Report {
         })
     }
 
-    fn nack_sign(&self, figures: &Figures, queue: &Queue) -> Option<String> {
+    fn nack_sign(&self, figures: &Figures, queue: &Queue, config: &Config) -> Option<String> {
         let nacked = figures.nacked - self.before.nacked;
+        if nacked > 0
+            && figures.nacked >= UNANSWERED
+            && figures.recovered + figures.not_needed == 0
+            && config.rtx.is_some()
+        {
+            return Some(format!(
+                "{} numbers NACKed and never a repair: is RTCP heard where it goes (--nack), and are payload type and SSRC those of the \
+                 sender's repairs?",
+                figures.nacked
+            ));
+        }
         let settled = figures.recovered - self.before.recovered + figures.lost.saturating_sub(self.before.lost);
         if nacked > 20 + 10 * settled {
             // From an estimate a NACK is repeated after a millisecond at the earliest, so this is no storm, but repairs are slower than it says.
