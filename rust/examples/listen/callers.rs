@@ -1,7 +1,7 @@
 //! Who is heard, and what goes out: one receiver to a caller.
 
 use crate::figures::Writer;
-use crate::nacks::Asking;
+use crate::nacks::{Asking, Nacks};
 use crate::options::Options;
 use crate::report::Report;
 use crate::wav::Wav;
@@ -53,7 +53,8 @@ impl<'a> Callers<'a> {
 
     fn open(&mut self, config: Config, now: Duration) -> io::Result<&mut Caller> {
         let receiver = Receiver::open(&config, self.options.rules, now).map_err(io::Error::other)?;
-        self.list.push(Caller { receiver, report: Report::default(), heard_at: now, source: None });
+        let report = Report::new(self.options.nacks() != Nacks::Untold);
+        self.list.push(Caller { receiver, report, heard_at: now, source: None });
         Ok(self.list.last_mut().expect("just opened"))
     }
 

@@ -11,6 +11,7 @@ const UNANSWERED: u64 = 20;
 
 /// What the queue does not count by itself.
 pub struct Report {
+    asks: bool,
     /// Dropped in this session, and in a row.
     dropped: u64,
     dropped_in_a_row: u64,
@@ -20,19 +21,24 @@ pub struct Report {
     too_large: usize,
     /// Whether it was said what to do about packets that are too large.
     advised: bool,
+    /// Numbers NACKed when it was last said that no repair comes.
+    unanswered: u64,
     held: [u64; HELD],
     before: Before,
 }
 
-impl Default for Report {
-    fn default() -> Report {
+impl Report {
+    /// `asks`: whether the sender hears of NACKs.
+    pub fn new(asks: bool) -> Report {
         Report {
+            asks,
             dropped: 0,
             dropped_in_a_row: 0,
             other_payload_type: None,
             other_ssrc: None,
             too_large: 0,
             advised: false,
+            unanswered: 0,
             held: [0; HELD],
             before: Before::default(),
         }
@@ -195,7 +201,8 @@ impl Report {
             signs.push(format!("{} dropped in a row: the sender restarted", self.dropped_in_a_row));
         }
         signs.extend(self.depth_sign(figures, config));
-        signs.extend(self.nack_sign(figures, queue, config));
+        signs.extend(self.nack_sign(figures, queue));
+        signs.extend(self.unanswered_sign(figures, config));
         signs.extend(self.clock_rate_sign(queue, config));
         signs
     }
@@ -238,19 +245,8 @@ impl Report {
         })
     }
 
-    fn nack_sign(&self, figures: &Figures, queue: &Queue, config: &Config) -> Option<String> {
+    fn nack_sign(&self, figures: &Figures, queue: &Queue) -> Option<String> {
         let nacked = figures.nacked - self.before.nacked;
-        if nacked > 0
-            && figures.nacked >= UNANSWERED
-            && figures.recovered + figures.not_needed == 0
-            && config.rtx.is_some()
-        {
-            return Some(format!(
-                "{} numbers NACKed and never a repair: is RTCP heard where it goes (--nack), and are payload type and SSRC those of the \
-                 sender's repairs?",
-                figures.nacked
-            ));
-        }
         let settled = figures.recovered - self.before.recovered + figures.lost.saturating_sub(self.before.lost);
         if nacked > 20 + 10 * settled {
             // From an estimate a NACK is repeated after a millisecond at the earliest, so this is no storm, but repairs are slower than it says.
@@ -266,6 +262,19 @@ impl Report {
         } else {
             None
         }
+    }
+
+    fn unanswered_sign(&mut self, figures: &Figures, config: &Config) -> Option<String> {
+        let answered = !self.asks || config.rtx.is_none() || figures.recovered + figures.not_needed > 0;
+        if answered || figures.nacked < UNANSWERED.max(self.unanswered + 1) {
+            return None;
+        }
+        self.unanswered = figures.nacked;
+        Some(format!(
+            "{} numbers NACKed and never a repair: is RTCP heard where it goes (--nack), and are payload type and SSRC those of the \
+             sender's repairs?",
+            figures.nacked
+        ))
     }
 
     fn clock_rate_sign(&self, queue: &Queue, config: &Config) -> Option<String> {
