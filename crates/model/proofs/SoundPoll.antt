@@ -179,9 +179,9 @@ nacks-sound s h =
       lists-in = changed (h .lists-in) _ (λ g. nacked-number (isDue g) (s .queue .clock) g) (λ g k. nacked-in (isDue g) g k);
     }
 
-pub poll-nack-sound : (now : ℕ) (lent : List ℕ) (s : State) → Sound s → pollNackRefusal now lent s ≡ 0 → Sound (afterPollNack now s)
+pub poll-nack-sound : (needed places now : ℕ) (s : State) → Sound s → pollNackRefusal needed places now (s .queue) (s .gaps) ≡ 0 → Sound (afterPollNack now s)
 unfolding nacksRefusal pollNackRefusal afterPollNack drained lose
-poll-nack-sound now lent s h e =
+poll-nack-sound needed places now s h e =
     let a = orElse-none _ _ e in
     let b = orElse-none _ _ (a .1) in
     let c = orElse-none _ _ (b .1) in

@@ -1,4 +1,4 @@
--- The eight calls at the head of 01, what each answers and what it leaves. The opening is in Did.
+-- The eight calls at the head of 01 and those that 02 adds, what each answers and what it leaves. The opening is in Did.
 use mathlib.Core.Bool.{Bool, cond}
 use mathlib.Core.List.{List, [], _∷_}
 use Prim.Native.Nat.{ℕ, zero, suc}
@@ -15,12 +15,14 @@ use Rattle.model.specs.declared.Queue.{Queue}
 use Rattle.model.specs.Records.{Entry, State, highestOf}
 use Rattle.model.specs.Rules.{Place, waits}
 use Rattle.model.specs.Push.{mediaEntry, mediaPlace, afterMedia, Fate, repairEntry, repairFate, afterRepair}
-use Rattle.model.specs.Poll.{goingOut, afterPoll, dueGaps, nackNumbers, afterPollNack, receiveTimeout, timingsOf, nackTimeout, repairFigures}
+use Rattle.model.specs.Poll.{goingOut, afterPoll, dueGaps, nackNumbers, nackEntries, afterPollNack, receiveTimeout, timingsOf, nackTimeout, repairFigures}
 
 -- A call with its own arguments: `now`, then the datagram, or the lent output.
 pub data Call : Type 0 where
   media repair : ℕ → List ℕ → Call
   poll pollNack : ℕ → List ℕ → Call
+  -- 02, point 1: a `poll_nack` whose output is on the wire
+  nackWire : ℕ → List ℕ → Call
   timeoutReceive timeoutNack : ℕ → Call
   rtxStats highestReceived : Call
 
@@ -47,6 +49,8 @@ pub data Answer : Type 0 where
   packet : Packet → Answer
   -- how many numbers stand in the output
   nack : ℕ → Answer
+  -- how many bytes do, 0 where nothing is due (02, point 1: "the answer to a call that writes counts the bytes .. written")
+  wire : ℕ → Answer
   timeout : Opt → Answer
   stats : OptRtxStats → Answer
   highest : Opt → Answer
@@ -58,6 +62,8 @@ taken (media now d) s = afterMedia now d s
 taken (repair now d) s = afterRepair now d s
 taken (poll now out) s = afterPoll now s
 taken (pollNack now out) s = afterPollNack now s
+-- 02, point 1: "with the same effect on the session"
+taken (nackWire now out) s = afterPollNack now s
 taken (timeoutReceive now) s = s
 taken (timeoutNack now) s = s
 taken rtxStats s = s
@@ -91,6 +97,7 @@ answered (media now d) s = placedAnswer (mediaPlace s (mediaEntry now d (s .queu
 answered (repair now d) s = repaired (repairFate s (repairEntry d (s .queue) .number))
 answered (poll now out) s = handed (s .queue) (goingOut now s (s .entries))
 answered (pollNack now out) s = nackAnswer (length (dueGaps now (s .queue) (s .gaps)))
+answered (nackWire now out) s = wire (length (nackEntries now s))
 answered (timeoutReceive now) s = timeout (receiveTimeout (s .queue .config .settings .mode) (s .queue .config .settings) (s .queue .last) (s .entries) now)
 answered (timeoutNack now) s = timeout (nackTimeout (timingsOf (s .queue)) now (s .gaps))
 answered rtxStats s = stats (repairFigures (s .queue))
@@ -108,17 +115,19 @@ outputOf (media now d) = []
 outputOf (repair now d) = []
 outputOf (poll now out) = out
 outputOf (pollNack now out) = out
+outputOf (nackWire now out) = out
 outputOf (timeoutReceive now) = []
 outputOf (timeoutNack now) = []
 outputOf rtxStats = []
 outputOf highestReceived = []
 
--- "Hand-out": "Output after the payload or the last NACK number keeps its bytes."
+-- "Hand-out": "Output after the payload or the last NACK number keeps its bytes." 02, point 1: "lent output after them is kept"
 unfoldable pub outputAfter : Call → State → List ℕ
 outputAfter (media now d) s = []
 outputAfter (repair now d) s = []
 outputAfter (poll now out) s = over (payloadOut (goingOut now s (s .entries))) out
 outputAfter (pollNack now out) s = over (nackNumbers now s) out
+outputAfter (nackWire now out) s = over (nackEntries now s) out
 outputAfter (timeoutReceive now) s = []
 outputAfter (timeoutNack now) s = []
 outputAfter rtxStats s = []

@@ -13,5 +13,6 @@ pub mod Did
 pub mod Unaltered
 pub mod Contract
 pub mod StaysSound
+pub mod OnTheWire
 pub mod Flipped
 pub mod Across

@@ -6,6 +6,7 @@ use lib.ListN.{length, take, drop}
 use Rattle.rtp.specs.Opt.{atMost, optMin}
 use Rattle.rtp.specs.declared.opt.Opt.{Opt}
 use Rattle.rtp.specs.declared.opt.Opt.the-variants.{None, Some}
+use Rattle.nack_pairs.specs.Wire as Wire
 use Rattle.rtx_state.specs.Repair.{rtxStats}
 use Rattle.stats.specs.declared.OptRtxStats.{OptRtxStats}
 use Rattle.stats.specs.declared.OptRtxStats.the-variants as OptRtxStats
@@ -22,7 +23,7 @@ use Rattle.model.specs.declared.LastReceived.the-variants as LastReceive
 use Rattle.model.specs.declared.Counters.{Counters}
 use Rattle.model.specs.declared.Queue.{Queue}
 use Rattle.model.specs.Lists.{keep}
-use Rattle.model.specs.Records.{Entry, Gap, State, withClock, withReturned, withCounters, withLoss}
+use Rattle.model.specs.Records.{Entry, Gap, State, gapNumbers, withClock, withReturned, withCounters, withLoss}
 use Rattle.model.specs.Rules.{timingsIn, dueAt, due, nackDue, truncated, rememberedAfter, givenUp, notGivenUp, lostBelow, leftFrom}
 
 unfoldable pub countLost : ℕ → Counters → Counters
@@ -105,6 +106,10 @@ dueGaps now q gaps = keep (due (timingsOf q) now) (notGivenUp (q .config .settin
 -- "The due numbers come out ascending by extended number, as 16 bits"
 unfoldable pub nackNumbers : ℕ → State → List ℕ
 nackNumbers now s = map truncated (dueGaps now (s .queue) (s .gaps))
+
+-- 02, point 1: "writes the due numbers as RFC 4585 generic NACK entries"
+unfoldable pub nackEntries : ℕ → State → List ℕ
+nackEntries now s = Wire.entries (gapNumbers (dueGaps now (s .queue) (s .gaps)))
 
 unfoldable pub nackAll : ℕ → State → State
 nackAll now s =

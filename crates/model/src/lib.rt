@@ -2,6 +2,7 @@
 // holds what the queue is, for the contracts and for the theorem over every list of calls alike.
 ghost use Rattle.model.specs.Across.{FlippedAcross};
 ghost use Rattle.model.specs.Flipped.{FlippedBit};
+ghost use Rattle.model.specs.OnTheWire.{OnTheWire};
 ghost use Rattle.model.specs.Shared.{SharedRules};
 ghost use Rattle.model.specs.StaysSound.{StaysSound};
 ghost use Rattle.model.specs.Unaltered.{Unaltered};
@@ -64,6 +65,11 @@ pub struct Session {
 // What the opening or an accepted call leaves is never refused under 16 at the next call.
 pub fn stays_sound()
     ensures { λ r. ⌜ StaysSound ⌝ }
+{}
+
+// The call on the wire has the effect of `poll_nack`, and what it writes reads back as the numbers that `poll_nack` would have written.
+pub fn on_the_wire()
+    ensures { λ r. ⌜ OnTheWire ⌝ }
 {}
 
 // A media packet or repair that the session would have taken is refused where one bit of version, payload type or sender is turned over, and

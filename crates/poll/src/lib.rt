@@ -40,6 +40,7 @@ use rtp::Ssrc;
 use rtp::opt::Opt;
 
 pub mod nack;
+pub mod wire;
 
 // A packet as `poll` hands it out: its own fields, the instant it came (none for a repair) and the delay; `size` bytes of the output
 // are its payload.
