@@ -1,4 +1,5 @@
-// The library for C and Rust: the opening, the eight calls, two readings and the version, on words that the caller keeps and storage that it lends.
+// The library for C and Rust: the opening, the calls, two readings, the reader of NACK entries and the version, on words that the caller keeps and
+// storage that it lends.
 // No function asks anything of its caller but live slices of the lengths passed, none of which overlaps another that is written.
 ghost use mathlib.Core.Path.{_≡_};
 ghost use mathlib.Core.List.{[]};
@@ -17,18 +18,22 @@ use ffi_words::answers;
 use ffi_words::answers::Opened;
 use ffi_words::answers::Polled;
 use ffi_words::answers::PolledNack;
+use ffi_words::answers::PolledWire;
 use ffi_words::answers::Pushed;
 use ffi_words::figures;
 use ffi_words::figures::Figures;
 use ffi_words::figures::Highest;
 use ffi_words::figures::Lengths;
+use ffi_words::figures::ReadNumbers;
 use ffi_words::figures::RtxStats;
 use ffi_words::figures::Timeout;
 use lost_nacked::MAX_LOST_NACKED;
 use lost_nacked::REMEMBERED_WORDS;
 use model::Queue;
+use nack_pairs::read;
 use packet_gaps::GAP_WORDS;
 use poll::nack;
+use poll::wire;
 use push::rtx;
 use queue::open;
 use queue::reading;
@@ -147,6 +152,36 @@ pub extern "C" fn bizhgemu_poll_nack(
     let answer = done.answer;
     let left = done.session;
     answers::nack_told(answer, session, left)
+}
+
+#[no_mangle]
+pub extern "C" fn bizhgemu_nack_wire(
+    session: SessionWords,
+    entries: &mut [u64],
+    payloads: &mut [u8],
+    gaps: &mut [u64],
+    remembered: &mut [u64],
+    now: u64,
+    out: &mut [u8],
+) -> PolledWire
+    ensures { λ r. ⌜ Gives Told.polledWire (Calls.nackWire now (out .entry .now)) session (lent entries payloads gaps remembered) r (left entries payloads gaps remembered) (out .exit .now) ⌝ }
+{
+    if !ffi_words::readable(session) {
+        return answers::wire_refused(refusals::SESSION, session);
+    }
+    let read = ffi_words::session_of(session);
+    let done = wire::nack_wire(read, entries, payloads, gaps, remembered, now, out);
+    let answer = done.answer;
+    let left = done.session;
+    answers::wire_told(answer, session, left)
+}
+
+// The 16-bit numbers that the entries of a generic NACK name. No session is needed.
+#[no_mangle]
+pub extern "C" fn bizhgemu_read_nacks(entries: &[u8], out: &mut [u16]) -> ReadNumbers
+    ensures { λ r. ⌜ Exported.readNacks (entries .entry .now) (out .entry .now) ≡ record { value = r; list = out .exit .now } ⌝ }
+{
+    figures::numbers_told(read::read(entries, out))
 }
 
 #[no_mangle]
