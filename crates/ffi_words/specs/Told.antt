@@ -1,4 +1,5 @@
 -- What an answer is in words. "Each refusal returns its number only": whatever an answer does not tell is 0.
+use mathlib.Core.Bool.{Bool, cond}
 use mathlib.Core.List.{List, [], _∷_}
 use Prim.Native.Nat.{ℕ}
 use lib.ListN.{length}
@@ -19,6 +20,7 @@ use Rattle.ffi_words.specs.declared.answers.Pushed.{Pushed}
 use Rattle.ffi_words.specs.declared.answers.Packet.{Packet}
 use Rattle.ffi_words.specs.declared.answers.Polled.{Polled}
 use Rattle.ffi_words.specs.declared.answers.PolledNack.{PolledNack}
+use Rattle.ffi_words.specs.declared.answers.PushedBurst.{PushedBurst}
 use Rattle.ffi_words.specs.declared.figures.Timeout.{Timeout}
 use Rattle.ffi_words.specs.declared.figures.RtxStats.{RtxStats}
 use Rattle.ffi_words.specs.declared.figures.Highest.{Highest}
@@ -124,6 +126,10 @@ polled a w = record { refusal = valueOf (refusalIn a); «has_packet» = length (
 
 unfoldable pub polledNack : Answer → SessionWords → PolledNack
 polledNack a w = record { refusal = valueOf (refusalIn a); count = valueOf (numberIn a); session = w }
+
+-- 02, point 4: of a burst; the words of the session that is left, where a datagram was accepted
+unfoldable pub burstTold : (refusal answers : ℕ) → Bool → SessionWords → Session → PushedBurst
+burstTold refusal answers accepted given left = record { refusal = refusal; answers = answers; session = cond accepted (wordsOf left) given }
 
 -- those of the calls that only read, whose caller keeps the words
 

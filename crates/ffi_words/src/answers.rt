@@ -8,7 +8,7 @@ ghost use Rattle.queue.specs.Answers.{openingAnswer};
 ghost use Rattle.push.specs.Answers.{mediaAnswer, repairAnswer};
 ghost use Rattle.poll.specs.Answers.{packetOf, pollAnswer, nackAnswer};
 ghost use Rattle.ffi_words.specs.Words.{flag, wordsOf};
-ghost use Rattle.ffi_words.specs.Told.{optWords, packetWords, back, pushed, polled, polledNack, openTold};
+ghost use Rattle.ffi_words.specs.Told.{optWords, packetWords, back, pushed, polled, polledNack, burstTold, openTold};
 use super::SessionWords;
 use model::Session;
 use poll::HandedOut;
@@ -30,6 +30,14 @@ pub struct Opened {
 pub struct Pushed {
     pub refusal: u64,
     pub answer: u64,
+    pub session: SessionWords,
+}
+
+// 02, point 4: how many answer numbers stand in the list, one for each datagram.
+#[repr(C)]
+pub struct PushedBurst {
+    pub refusal: u64,
+    pub answers: usize,
     pub session: SessionWords,
 }
 
@@ -246,5 +254,30 @@ pub fn nack_told(answer: NackAnswer, given: SessionWords, left: Session) -> Poll
         NackAnswer::Nothing => nack_done(0, left),
         NackAnswer::Numbers(n) => nack_done(n, left),
         NackAnswer::Refused(k) => nack_refused(k, given),
+    }
+}
+
+// The words as they came where no datagram was accepted.
+pub fn burst_told(
+    refusal: u64,
+    answers: usize,
+    accepted: bool,
+    given: SessionWords,
+    left: Session,
+) -> PushedBurst
+    ensures { λ r. ⌜ r ≡ burstTold refusal answers accepted given left ⌝ }
+{
+    if !accepted {
+        return PushedBurst {
+            refusal,
+            answers,
+            session: given,
+        };
+    }
+    let session = super::writing::words_of(left);
+    PushedBurst {
+        refusal,
+        answers,
+        session,
     }
 }
