@@ -104,6 +104,9 @@ enum bizhgemu_mode {
 enum bizhgemu_media { BIZHGEMU_QUEUED = 0, BIZHGEMU_DROPPED = 1 };
 enum bizhgemu_repair { BIZHGEMU_RECOVERED = 0, BIZHGEMU_REDUNDANT = 1, BIZHGEMU_TOO_LATE = 2 };
 
+/* The answer numbers of a burst's datagrams; any other is the number of a refusal. */
+enum bizhgemu_burst_answer { BIZHGEMU_ANSWER_QUEUED = 0, BIZHGEMU_ANSWER_DROPPED = 255 };
+
 /* The settings. Every field is checked at the opening, used by the mode or not, but for the three that BIZHGEMU_DYNAMIC alone has. */
 struct bizhgemu_config {
 	/* Durations in nanoseconds, each at most 60,000,000,000. */
@@ -176,6 +179,13 @@ struct bizhgemu_opened {
 struct bizhgemu_pushed {
 	uint64_t refusal;
 	uint64_t answer;
+	struct bizhgemu_session session;
+};
+
+/* Of a burst: how many answer numbers stand in `answers`, one for each datagram. */
+struct bizhgemu_pushed_burst {
+	uint64_t refusal;
+	size_t answers;
 	struct bizhgemu_session session;
 };
 
@@ -304,6 +314,7 @@ BIZHGEMU_SIZE(bizhgemu_config, 96);
 BIZHGEMU_SIZE(bizhgemu_session, 288);
 BIZHGEMU_SIZE(bizhgemu_opened, 296);
 BIZHGEMU_SIZE(bizhgemu_pushed, 304);
+BIZHGEMU_SIZE(bizhgemu_pushed_burst, 304);
 BIZHGEMU_SIZE(bizhgemu_packet, 48);
 BIZHGEMU_SIZE(bizhgemu_polled, 352);
 BIZHGEMU_SIZE(bizhgemu_polled_nack, 304);
@@ -346,6 +357,16 @@ struct bizhgemu_opened bizhgemu_open(struct bizhgemu_config config, BIZHGEMU_STO
 /* Takes a media datagram, header and all. Refused under 16, 8, 2 to 7, 14, 12. */
 struct bizhgemu_pushed bizhgemu_push(struct bizhgemu_session session, BIZHGEMU_STORAGE,
 	uint64_t now, const uint8_t *datagram, size_t datagram_len);
+
+/* Takes media datagrams that came together as single calls of bizhgemu_push at one instant, and writes one answer number for
+ * each to `answers`: BIZHGEMU_ANSWER_QUEUED, BIZHGEMU_ANSWER_DROPPED, or the number of its refusal, which stops none of the
+ * later ones. `ends` says where each ends in `buffer`: the first starts at byte 0, each further one where the one before it
+ * ends; bytes after the last end are ignored, and places of `answers` past the last datagram are kept. The whole call is refused
+ * under 15 alone: an end below the one before it or past the buffer, or fewer places in `answers` than ends. Looks through session
+ * and storage once, so that a datagram costs what its own place does. */
+struct bizhgemu_pushed_burst bizhgemu_push_burst(struct bizhgemu_session session, BIZHGEMU_STORAGE,
+	uint64_t now, const uint8_t *buffer, size_t buffer_len, const uint64_t *ends, size_t ends_len,
+	uint8_t *answers, size_t answers_len);
 
 /* Takes a repair: the RTX packet as it was sent (RFC 4588). Refused under 16, 8, 9, 2 to 7, 10, 11, 14, 13. */
 struct bizhgemu_pushed bizhgemu_push_rtx(struct bizhgemu_session session, BIZHGEMU_STORAGE,
@@ -481,6 +502,15 @@ static inline struct bizhgemu_opened bizhgemu_queue_open(struct bizhgemu_queue *
 static inline struct bizhgemu_pushed bizhgemu_queue_push(struct bizhgemu_queue *q, uint64_t now, const uint8_t *datagram, size_t length)
 {
 	const struct bizhgemu_pushed r = bizhgemu_push(q->session, BIZHGEMU_LENT(q), now, datagram, length);
+	if (r.refusal == 0)
+		q->session = r.session;
+	return r;
+}
+
+static inline struct bizhgemu_pushed_burst bizhgemu_queue_push_burst(struct bizhgemu_queue *q, uint64_t now, const uint8_t *buffer,
+	size_t length, const uint64_t *ends, size_t count, uint8_t *answers, size_t places)
+{
+	const struct bizhgemu_pushed_burst r = bizhgemu_push_burst(q->session, BIZHGEMU_LENT(q), now, buffer, length, ends, count, answers, places);
 	if (r.refusal == 0)
 		q->session = r.session;
 	return r;

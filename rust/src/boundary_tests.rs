@@ -630,3 +630,117 @@ fn a_count_at_its_end_that_is_not_raised_may_stand() {
         assert_eq!(refusal(&lent, lent.session.clock, *call), 0, "{what}");
     }
 }
+
+// ---- a burst (02, point 4)
+
+/// What a burst of these datagrams is answered: refusal, answers written, and a list of so many places.
+fn burst(lent: &mut Lent, now: u64, parts: &[Vec<u8>], places: usize) -> (u64, usize, Vec<u8>) {
+    let buffer = parts.concat();
+    let ends: Vec<u64> = parts
+        .iter()
+        .scan(0, |end, part| {
+            *end += part.len() as u64;
+            Some(*end)
+        })
+        .collect();
+    burst_at(lent, now, &buffer, &ends, places)
+}
+
+fn burst_at(lent: &mut Lent, now: u64, buffer: &[u8], ends: &[u64], places: usize) -> (u64, usize, Vec<u8>) {
+    let mut answers = vec![0xaa; places];
+    let pushed = lend!(
+        bizhgemu_push_burst,
+        lent.session,
+        lent.storage,
+        now,
+        buffer.as_ptr(),
+        buffer.len(),
+        ends.as_ptr(),
+        ends.len(),
+        answers.as_mut_ptr(),
+        answers.len()
+    );
+    lent.session = pushed.session;
+    (pushed.refusal, pushed.answers, answers)
+}
+
+/// Numbers after the highest of `used`, one more of them, and two that are refused.
+fn mixed() -> Vec<Vec<u8>> {
+    let stranger = header(6, 16, 960, SSRC, &[5]);
+    vec![
+        vec![0x80; 11],
+        media(16, 960, &[5]),
+        stranger,
+        media(17, 1120, &[6; 9]),
+        media(16, 960, &[5]),
+        media(18, 1280, &[]),
+    ]
+}
+
+/// The words of a session that are used; its storage.
+fn same(a: &Lent, b: &Lent) -> bool {
+    words(&a.session) == words(&b.session) && a.storage == b.storage
+}
+
+#[test]
+fn a_burst_is_its_single_calls() {
+    let (mut whole, mut single) = (lent(), lent());
+    // garbage in unused places, which the first accepted datagram clears
+    for lent in [&mut whole, &mut single] {
+        lent.storage.gaps[4..].fill(u64::MAX);
+        lent.storage.payloads[321..].fill(0xff);
+    }
+    let now = whole.session.clock;
+    let told: Vec<u8> = mixed()
+        .iter()
+        .map(|datagram| {
+            let pushed = lend!(bizhgemu_push, single.session, single.storage, now, datagram.as_ptr(), datagram.len());
+            single.session = pushed.session;
+            if pushed.refusal != 0 { pushed.refusal as u8 } else { [0, 255][pushed.answer as usize] }
+        })
+        .collect();
+    assert_eq!(told, [2, 0, 6, 0, 255, 0]);
+    let (refusal, count, answers) = burst(&mut whole, now, &mixed(), told.len() + 2);
+    assert_eq!((refusal, count), (0, told.len()));
+    assert_eq!((&answers[..count], &answers[count..]), (&told[..], &[0xaa; 2][..]));
+    assert!(same(&whole, &single) && has_zeros(&whole.session, &whole.storage));
+}
+
+#[test]
+fn a_burst_that_is_refused_alters_nothing() {
+    let mut marked = lent();
+    marked.storage.gaps[4..].fill(u64::MAX);
+    let now = marked.session.clock;
+    let ok = media(16, 960, &[5]);
+    let bytes = ok.len() as u64;
+    for (buffer, ends, places, want) in [
+        // ends that fall, that pass the buffer; a list one place short
+        (&ok[..], &[bytes, bytes - 1][..], 2, (15, 0, vec![0xaa; 2])),
+        (&ok[..], &[bytes + 1][..], 1, (15, 0, vec![0xaa; 1])),
+        (&ok[..], &[u64::MAX][..], 1, (15, 0, vec![0xaa; 1])),
+        (&ok[..], &[bytes][..], 0, (15, 0, vec![])),
+        // no end; two equal ends, bytes after the last one
+        (&ok[..], &[][..], 1, (0, 0, vec![0xaa; 1])),
+        (&ok[..], &[0, 0][..], 3, (0, 2, vec![2, 2, 0xaa])),
+    ] {
+        let mut lent = marked.clone();
+        assert_eq!(burst_at(&mut lent, now, buffer, ends, places), want);
+        assert!(lent == marked);
+    }
+    // an instant before the clock's; then a damaged session, a setting and a flag that is none: each datagram's answer
+    let mut lent = marked.clone();
+    assert_eq!(burst(&mut lent, now - 1, &mixed(), 6), (0, 6, vec![8; 6]));
+    assert!(lent == marked);
+    let damages: [fn(&mut Lent); 3] =
+        [|l| l.session.gaps += 1, |l| l.session.config.clock_rate = 0, |l| l.session.has_rtt = 2];
+    for damage in damages {
+        let mut lent = marked.clone();
+        damage(&mut lent);
+        let damaged = lent.clone();
+        assert_eq!(burst(&mut lent, now, &mixed(), 6), (0, 6, vec![16; 6]));
+        assert!(lent == damaged);
+        // 15 comes first
+        assert_eq!(burst(&mut lent, now, &mixed(), 5), (15, 0, vec![0xaa; 5]));
+        assert!(lent == damaged);
+    }
+}

@@ -91,6 +91,13 @@ pub struct Polled {
 }
 
 #[repr(C)]
+pub struct PushedBurst {
+    pub refusal: u64,
+    pub answers: usize,
+    pub session: Session,
+}
+
+#[repr(C)]
 pub struct PolledNack {
     pub refusal: u64,
     pub count: usize,
@@ -233,6 +240,7 @@ const _: () = {
     assert!(size_of::<Session>() == 288);
     assert!(size_of::<Opened>() == 296);
     assert!(size_of::<Pushed>() == 304);
+    assert!(size_of::<PushedBurst>() == 304);
     assert!(size_of::<Packet>() == 48);
     assert!(size_of::<Polled>() == 352);
     assert!(size_of::<PolledNack>() == 304);
@@ -285,6 +293,15 @@ macro_rules! lent {
 
 lent! {
     bizhgemu_push(now: u64, datagram: *const u8, datagram_len: usize) -> Pushed;
+    bizhgemu_push_burst(
+        now: u64,
+        buffer: *const u8,
+        buffer_len: usize,
+        ends: *const u64,
+        ends_len: usize,
+        answers: *mut u8,
+        answers_len: usize
+    ) -> PushedBurst;
     bizhgemu_push_rtx(now: u64, datagram: *const u8, datagram_len: usize) -> Pushed;
     bizhgemu_poll(now: u64, out: *mut u8, out_len: usize) -> Polled;
     bizhgemu_poll_nack(now: u64, out: *mut u16, out_len: usize) -> PolledNack;

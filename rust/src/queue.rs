@@ -65,7 +65,7 @@ macro_rules! lend {
     ($function:ident, $session:expr, $storage:expr $(, $argument:expr)*) => {{
         let Storage { entries, payloads, gaps, remembered } = &mut $storage;
         // SAFETY: four live slices of the lengths passed, each of another allocation; the arguments after them are numbers, or
-        // pointer and length of one live slice apart from the four. The function asks nothing else of any value.
+        // pointers and lengths of live slices apart from the four and from each other. The function asks nothing else of any value.
         unsafe {
             ffi::$function(
                 $session,
@@ -167,6 +167,58 @@ impl Queue {
         Refusal::check(pushed.refusal)?;
         self.session = pushed.session;
         Ok(if pushed.answer == 0 { Media::Queued } else { Media::Dropped })
+    }
+
+    /// Takes media datagrams that came together, as single calls of [`push`](Queue::push) in that order at one instant, but looks
+    /// through session and storage once for all of them. `ends` says where each datagram ends in `buffer`: the first starts at byte
+    /// 0, each further one where the one before it ends, and bytes after the last end are ignored. One answer comes back for each; a
+    /// refused datagram stops none of the later ones.
+    ///
+    /// ```
+    /// use bizhgemu::{Config, Media, Queue, Refusal};
+    /// use std::time::Duration;
+    ///
+    /// let mut queue = Queue::open(&Config::pcmu(1))?;
+    /// let datagram = |number: u8| [0x80, 0, 0, number, 0, 0, 0, 0, 0, 0, 0, 1, 0x2a];
+    ///
+    /// // Number 10, eleven bytes that are no packet, number 11, and 10 once more.
+    /// let mut buffer = Vec::new();
+    /// let mut ends = Vec::new();
+    /// for part in [&datagram(10)[..], &[0x80; 11], &datagram(11), &datagram(10)] {
+    ///     buffer.extend_from_slice(part);
+    ///     ends.push(buffer.len() as u64);
+    /// }
+    /// let answers = queue.push_burst(Duration::ZERO, &buffer, &ends)?;
+    /// assert_eq!(answers, [Ok(Media::Queued), Err(Refusal::Truncated), Ok(Media::Queued), Ok(Media::Dropped)]);
+    /// # Ok::<(), bizhgemu::Refusal>(())
+    /// ```
+    ///
+    /// # Errors
+    ///
+    /// [`Refusal::Output`] (15) where an end is below the one before it or past the buffer: then nothing was pushed. Every other
+    /// refusal is one datagram's answer, also [`Refusal::Session`] (16) and [`Refusal::Clock`] (8).
+    pub fn push_burst(
+        &mut self,
+        now: Duration,
+        buffer: &[u8],
+        ends: &[u64],
+    ) -> Result<Vec<Result<Media, Refusal>>, Refusal> {
+        let mut answers = vec![0; ends.len()];
+        let pushed = lend!(
+            bizhgemu_push_burst,
+            self.session,
+            self.storage,
+            nanoseconds(now),
+            buffer.as_ptr(),
+            buffer.len(),
+            ends.as_ptr(),
+            ends.len(),
+            answers.as_mut_ptr(),
+            answers.len()
+        );
+        Refusal::check(pushed.refusal)?;
+        self.session = pushed.session;
+        Ok(answers.into_iter().map(media).collect())
     }
 
     /// Takes a repair: the RTX packet as it was sent (RFC 4588).
@@ -417,4 +469,13 @@ fn timeout(answer: ffi::Timeout) -> Result<Option<Duration>, Refusal> {
 /// A value beside its flag.
 pub(crate) fn told<T>(flag: u64, value: T) -> Option<T> {
     (flag != 0).then_some(value)
+}
+
+/// A datagram's answer number in a burst: 0 queued, 255 dropped, else the refusal.
+fn media(number: u8) -> Result<Media, Refusal> {
+    match number {
+        0 => Ok(Media::Queued),
+        255 => Ok(Media::Dropped),
+        refusal => Refusal::check(refusal.into()).map(|()| Media::Queued),
+    }
 }

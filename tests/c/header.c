@@ -311,6 +311,38 @@ static void fields(void)
 	IS(h.number, s->last_number);
 }
 
+/* Four datagrams in one buffer: 10, eleven bytes that are none, 12, and 10 once more. */
+static void bursts(void)
+{
+	uint8_t buffer[13 + 11 + 13 + 13 + 5];
+	uint64_t ends[4] = {13, 24, 37, 50};
+	uint8_t answers[5] = {9, 9, 9, 9, 9};
+	memset(buffer, 0x80, sizeof buffer);
+	memcpy(buffer, datagram(PT, 10, 0, SSRC, 1), 13);
+	memcpy(buffer + 24, datagram(PT, 12, 320, SSRC, 1), 13);
+	memcpy(buffer + 37, datagram(PT, 10, 0, SSRC, 1), 13);
+	IS(open_with(settings()), 0);
+	struct bizhgemu_pushed_burst r = bizhgemu_queue_push_burst(&q, MS, buffer, sizeof buffer, ends, 4, answers, 5);
+	IS(r.refusal, 0);
+	IS(r.answers, 4);
+	IS(answers[0], BIZHGEMU_ANSWER_QUEUED);
+	IS(answers[1], BIZHGEMU_REFUSED_TRUNCATED);
+	IS(answers[2], BIZHGEMU_ANSWER_QUEUED);
+	IS(answers[3], BIZHGEMU_ANSWER_DROPPED);
+	IS(answers[4], 9);
+	IS(q.session.entries, 2);
+	IS(q.session.gaps, 1);
+	IS(q.session.clock, MS);
+	IS(bizhgemu_queue_push_burst(&q, MS, buffer, sizeof buffer, ends, 4, answers, 3).refusal, BIZHGEMU_REFUSED_OUTPUT);
+	IS(bizhgemu_queue_push_burst(&q, MS, buffer, 49, ends, 4, answers, 5).refusal, BIZHGEMU_REFUSED_OUTPUT);
+	ends[3] = 36;
+	IS(bizhgemu_queue_push_burst(&q, MS, buffer, sizeof buffer, ends, 4, answers, 5).refusal, BIZHGEMU_REFUSED_OUTPUT);
+	IS(bizhgemu_queue_push_burst(&q, MS, buffer, sizeof buffer, ends, 0, answers, 5).answers, 0);
+	IS(bizhgemu_queue_push_burst(&q, 0, buffer, sizeof buffer, ends, 1, answers, 5).answers, 1);
+	IS(answers[0], BIZHGEMU_REFUSED_CLOCK);
+	IS(q.session.clock, MS);
+}
+
 /* Each refusal, reached. */
 static void refusals(void)
 {
@@ -393,6 +425,7 @@ int main(void)
 	ranges();
 	defaults();
 	fields();
+	bursts();
 	refusals();
 	nacks_on_the_wire();
 	printf("header against archive: %d checks, %d failures\n", checks, failures);

@@ -155,10 +155,10 @@ module _ (c : ConfigWords) (t : Storage) where
 
 -- ---- runs
 
-record Stands (c : ConfigWords) (ks : List Call) (w : SessionWords) (x : Run) : Type 0 where
-  made : Code.Made (configOf c) ks x
-  readable-words : readable w ≡ true
-  stored-is : x .stored ≡ standsFor w (x .stored .storage)
+pub record Stands (c : ConfigWords) (ks : List Call) (w : SessionWords) (x : Run) : Type 0 where
+  pub made : Code.Made (configOf c) ks x
+  pub readable-words : readable w ≡ true
+  pub stored-is : x .stored ≡ standsFor w (x .stored .storage)
 
 at-opening : {c : ConfigWords} (t : Storage) {u : Storage} {r : Opened} → openedWords c t ≡ record { value = r; storage = u; output = [] } → r .refusal ≡ 0
     → Stands c [] (r .session) (record { stored = standsFor (r .session) u; book = empty; returned = [] })
@@ -181,7 +181,7 @@ module _ {c : ConfigWords} {ks : List Call} {w v : SessionWords} {u : Storage} {
   unfolding call
   same-call = rw (left, heard .0, heard .1)
 
-stands : {c : ConfigWords} {ks : List Call} {w : SessionWords} {x : Run} → MadeInWords c ks w x → Stands c ks w x
+pub stands : {c : ConfigWords} {ks : List Call} {w : SessionWords} {x : Run} → MadeInWords c ks w x → Stands c ks w x
 stands (opening t e z) = at-opening t e z
 stands (further k m e) = at-call k (stands m) e
 stands (looked m e) = stands m

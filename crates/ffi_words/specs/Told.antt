@@ -1,4 +1,5 @@
 -- What an answer is in words. "Each refusal returns its number only": whatever an answer does not tell is 0.
+use mathlib.Core.Bool.{Bool, cond}
 use mathlib.Core.List.{List, [], _∷_}
 use Prim.Native.Nat.{ℕ}
 use lib.ListN.{length}
@@ -22,6 +23,7 @@ use Rattle.ffi_words.specs.declared.answers.Packet.{Packet}
 use Rattle.ffi_words.specs.declared.answers.Polled.{Polled}
 use Rattle.ffi_words.specs.declared.answers.PolledNack.{PolledNack}
 use Rattle.ffi_words.specs.declared.answers.PolledWire.{PolledWire}
+use Rattle.ffi_words.specs.declared.answers.PushedBurst.{PushedBurst}
 use Rattle.ffi_words.specs.declared.figures.Timeout.{Timeout}
 use Rattle.ffi_words.specs.declared.figures.RtxStats.{RtxStats}
 use Rattle.ffi_words.specs.declared.figures.Highest.{Highest}
@@ -135,6 +137,10 @@ polledNack a w = record { refusal = valueOf (refusalIn a); count = valueOf (numb
 
 unfoldable pub polledWire : Answer → SessionWords → PolledWire
 polledWire a w = record { refusal = valueOf (refusalIn a); bytes = valueOf (numberIn a); session = w }
+
+-- 02, point 4: of a burst; the words of the session that is left, where a datagram was accepted
+unfoldable pub burstTold : (refusal answers : ℕ) → Bool → SessionWords → Session → PushedBurst
+burstTold refusal answers accepted given left = record { refusal = refusal; answers = answers; session = cond accepted (wordsOf left) given }
 
 -- those of the calls that only read, whose caller keeps the words
 

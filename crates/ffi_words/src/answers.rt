@@ -8,7 +8,7 @@ ghost use Rattle.queue.specs.Answers.{openingAnswer};
 ghost use Rattle.push.specs.Answers.{mediaAnswer, repairAnswer};
 ghost use Rattle.poll.specs.Answers.{packetOf, pollAnswer, nackAnswer, wireAnswer};
 ghost use Rattle.ffi_words.specs.Words.{flag, wordsOf};
-ghost use Rattle.ffi_words.specs.Told.{optWords, packetWords, back, pushed, polled, polledNack, polledWire, openTold};
+ghost use Rattle.ffi_words.specs.Told.{optWords, packetWords, back, pushed, polled, polledNack, polledWire, burstTold, openTold};
 use super::SessionWords;
 use model::Session;
 use poll::HandedOut;
@@ -31,6 +31,14 @@ pub struct Opened {
 pub struct Pushed {
     pub refusal: u64,
     pub answer: u64,
+    pub session: SessionWords,
+}
+
+// 02, point 4: how many answer numbers stand in the list, one for each datagram.
+#[repr(C)]
+pub struct PushedBurst {
+    pub refusal: u64,
+    pub answers: usize,
     pub session: SessionWords,
 }
 
@@ -285,5 +293,30 @@ pub fn wire_told(answer: WireAnswer, given: SessionWords, left: Session) -> Poll
     match answer {
         WireAnswer::Bytes(n) => wire_done(n, left),
         WireAnswer::Refused(k) => wire_refused(k, given),
+    }
+}
+
+// The words as they came where no datagram was accepted.
+pub fn burst_told(
+    refusal: u64,
+    answers: usize,
+    accepted: bool,
+    given: SessionWords,
+    left: Session,
+) -> PushedBurst
+    ensures { λ r. ⌜ r ≡ burstTold refusal answers accepted given left ⌝ }
+{
+    if !accepted {
+        return PushedBurst {
+            refusal,
+            answers,
+            session: given,
+        };
+    }
+    let session = super::writing::words_of(left);
+    PushedBurst {
+        refusal,
+        answers,
+        session,
     }
 }
