@@ -273,7 +273,7 @@ struct bizhgemu_settings {
 	uint64_t delay;                     /* 0 outside BIZHGEMU_SORTED_QUEUE, or there is no line */
 	uint64_t initial_nack_delay;
 	uint64_t default_nack_resend_delay;
-	uint64_t min_delay;                 /* these three: of mode 2, a dynamic delay, alone; 0 in what is read in another */
+	uint64_t min_delay;                 /* these three: of BIZHGEMU_DYNAMIC; 0 in another mode, or there is no line */
 	uint64_t max_delay;
 	uint64_t target_recovery;
 	size_t max_entries;

@@ -150,6 +150,10 @@ static void settings_line(void)
 	IS(bizhgemu_read_settings(line, 11).refusal, BIZHGEMU_REFUSED_LINE_VERSION);
 	s.delay = 14;
 	IS(bizhgemu_write_settings(s, line, sizeof line).refusal, BIZHGEMU_REFUSED_SETTINGS);
+	s.mode = BIZHGEMU_SORTED_QUEUE;
+	IS(bizhgemu_write_settings(s, line, sizeof line).refusal, BIZHGEMU_REFUSED_SETTINGS);
+	s.min_delay = s.max_delay = s.target_recovery = 0;
+	IS(bizhgemu_write_settings(s, line, sizeof line).refusal, 0);
 	s.mode = 3;
 	IS(bizhgemu_write_settings(s, line, sizeof line).refusal, BIZHGEMU_REFUSED_SETTINGS);
 }
