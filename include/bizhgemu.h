@@ -60,10 +60,14 @@ extern "C" {
 #define BIZHGEMU_GAPS(G) (4 * (G))
 #define BIZHGEMU_REMEMBERED 2048
 
+/* The bytes that `nack_wire` must be lent for most gaps G, and the numbers that `read_nacks` must be lent for so many bytes of entries. */
+#define BIZHGEMU_NACK_BYTES(G) (4 * (G))
+#define BIZHGEMU_NACK_NUMBERS(BYTES) (17 * ((BYTES) / 4))
+
 /* The bytes of a settings line. */
 #define BIZHGEMU_SETTINGS_LINE 145
 
-/* Why a call was turned back; `bizhgemu_refusal_text` has it in words. More numbers may come (17 to 19 are planned), so let a
+/* Why a call was turned back; `bizhgemu_refusal_text` has it in words. More numbers may come (18 and 19 are planned), so let a
  * switch have a default. Checks run in the order of docs/USING.md, "Refusals in the field", not of these numbers; there
  * it also says what to do about each. Below, "2 to 7" stands for 2 (under 12 bytes), 3, 2 (CSRCs and extension), 4, 5, 6, 7. */
 enum bizhgemu_refusal {
@@ -82,8 +86,9 @@ enum bizhgemu_refusal {
 	BIZHGEMU_REFUSED_GAPS_FULL = 12,          /* more gaps than max_gaps would be open */
 	BIZHGEMU_REFUSED_ENTRIES_FULL = 13,       /* repair with 2 * max_entries packets waiting */
 	BIZHGEMU_REFUSED_COUNT = 14,              /* a number, timestamp or counter would pass 2^52 - 1, or a NACK count 2^32 - 1 */
-	BIZHGEMU_REFUSED_OUTPUT = 15,             /* lent output under 320 bytes, or under max_gaps numbers */
+	BIZHGEMU_REFUSED_OUTPUT = 15,             /* lent output under 320 bytes, max_gaps numbers, 4 * max_gaps bytes; settings line of 145; list under 17 numbers for each four bytes */
 	BIZHGEMU_REFUSED_SESSION = 16,            /* session or storage that no call leaves, as far as row 16 sees it, or not of these settings */
+	BIZHGEMU_REFUSED_NACK_ENTRIES = 17,       /* entries of a NACK that are not a multiple of 4 bytes */
 	BIZHGEMU_REFUSED_SETTINGS_LINE = 20,      /* settings line of another length or without its line feed, or a field that is no number */
 	BIZHGEMU_REFUSED_LINE_VERSION = 21        /* settings line that does not begin with eleven blanks and version 1 or 2 */
 };
@@ -202,6 +207,19 @@ struct bizhgemu_polled_nack {
 	struct bizhgemu_session session;
 };
 
+/* `bytes` bytes are in the lent output, four to an entry; 0: nothing is due. */
+struct bizhgemu_polled_wire {
+	uint64_t refusal;
+	size_t bytes;
+	struct bizhgemu_session session;
+};
+
+/* `numbers` numbers are in the lent list. */
+struct bizhgemu_read_numbers {
+	uint64_t refusal;
+	size_t numbers;
+};
+
 /* The time from `now` until a packet or a NACK should be asked for; there may be none then (docs/USING.md). No timeout:
  * nothing to wait for, or beside a refusal nothing told. */
 struct bizhgemu_timeout {
@@ -289,6 +307,8 @@ BIZHGEMU_SIZE(bizhgemu_pushed, 304);
 BIZHGEMU_SIZE(bizhgemu_packet, 48);
 BIZHGEMU_SIZE(bizhgemu_polled, 352);
 BIZHGEMU_SIZE(bizhgemu_polled_nack, 304);
+BIZHGEMU_SIZE(bizhgemu_polled_wire, 304);
+BIZHGEMU_SIZE(bizhgemu_read_numbers, 16);
 BIZHGEMU_SIZE(bizhgemu_timeout, 24);
 BIZHGEMU_SIZE(bizhgemu_rtx_stats, 64);
 BIZHGEMU_SIZE(bizhgemu_highest, 24);
@@ -341,10 +361,21 @@ struct bizhgemu_polled bizhgemu_poll(struct bizhgemu_session session, BIZHGEMU_S
 struct bizhgemu_polled_nack bizhgemu_poll_nack(struct bizhgemu_session session, BIZHGEMU_STORAGE,
 	uint64_t now, uint16_t *out, size_t out_len);
 
+/* The same numbers as they go over the wire, in place of poll_nack and with the same effect: entries of a generic NACK (RFC 4585, section
+ * 6.2.1) are written to `out`, of at least 4 * max_gaps bytes; what lies behind them there is kept. An entry is a number and a mask of the
+ * sixteen that follow it, its lowest bit for the next, both high byte first; there are as few as can name these numbers. The RTCP packet
+ * around them, 12 bytes before, is the caller's (docs/USING.md, "NACKs on the wire"). Refused under 16, 15, 8, 14. */
+struct bizhgemu_polled_wire bizhgemu_nack_wire(struct bizhgemu_session session, BIZHGEMU_STORAGE,
+	uint64_t now, uint8_t *out, size_t out_len);
+
+/* The sender's side: writes the numbers that such entries name to `out`, of at least 17 numbers for each four bytes, entry by entry, its
+ * first number and then those of its mask from the lowest bit; what lies behind them there is kept. Refused under 15, 17. */
+struct bizhgemu_read_numbers bizhgemu_read_nacks(const uint8_t *entries, size_t entries_len, uint16_t *out, size_t out_len);
+
 /* The time until `poll` should be called. Does not advance the clock. Refused under 16, 8. */
 struct bizhgemu_timeout bizhgemu_timeout_receive(struct bizhgemu_session session, BIZHGEMU_STORAGE, uint64_t now);
 
-/* The time until `poll_nack` should be called. Does not advance the clock. Refused under 16, 8. */
+/* The time until `poll_nack` or `nack_wire` should be called. Does not advance the clock. Refused under 16, 8. */
 struct bizhgemu_timeout bizhgemu_timeout_nack(struct bizhgemu_session session, BIZHGEMU_STORAGE, uint64_t now);
 
 /* The figures of repairs. Refused under 16. */
@@ -403,6 +434,7 @@ static inline const char *bizhgemu_refusal_text(uint64_t refusal)
 	case BIZHGEMU_REFUSED_COUNT: return "a number, timestamp or counter would pass 2^52 - 1, or a NACK count 2^32 - 1";
 	case BIZHGEMU_REFUSED_OUTPUT: return "the lent output is too short";
 	case BIZHGEMU_REFUSED_SESSION: return "session or storage is damaged, or not that of these settings";
+	case BIZHGEMU_REFUSED_NACK_ENTRIES: return "the entries of a NACK are not a multiple of 4 bytes";
 	case BIZHGEMU_REFUSED_SETTINGS_LINE: return "the settings line has the wrong length, no line feed at its end, or a field that is not a number after blanks";
 	case BIZHGEMU_REFUSED_LINE_VERSION: return "the settings line does not begin with eleven blanks and version 1 or 2";
 	default: return "not a refusal of this version";
@@ -473,6 +505,14 @@ static inline struct bizhgemu_polled bizhgemu_queue_poll(struct bizhgemu_queue *
 static inline struct bizhgemu_polled_nack bizhgemu_queue_poll_nack(struct bizhgemu_queue *q, uint64_t now, uint16_t *out, size_t length)
 {
 	const struct bizhgemu_polled_nack r = bizhgemu_poll_nack(q->session, BIZHGEMU_LENT(q), now, out, length);
+	if (r.refusal == 0)
+		q->session = r.session;
+	return r;
+}
+
+static inline struct bizhgemu_polled_wire bizhgemu_queue_nack_wire(struct bizhgemu_queue *q, uint64_t now, uint8_t *out, size_t length)
+{
+	const struct bizhgemu_polled_wire r = bizhgemu_nack_wire(q->session, BIZHGEMU_LENT(q), now, out, length);
 	if (r.refusal == 0)
 		q->session = r.session;
 	return r;

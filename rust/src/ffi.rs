@@ -98,6 +98,19 @@ pub struct PolledNack {
 }
 
 #[repr(C)]
+pub struct PolledWire {
+    pub refusal: u64,
+    pub bytes: usize,
+    pub session: Session,
+}
+
+#[repr(C)]
+pub struct ReadNumbers {
+    pub refusal: u64,
+    pub numbers: usize,
+}
+
+#[repr(C)]
 pub struct Timeout {
     pub refusal: u64,
     pub has_timeout: u64,
@@ -223,6 +236,8 @@ const _: () = {
     assert!(size_of::<Packet>() == 48);
     assert!(size_of::<Polled>() == 352);
     assert!(size_of::<PolledNack>() == 304);
+    assert!(size_of::<PolledWire>() == 304);
+    assert!(size_of::<ReadNumbers>() == 16);
     assert!(size_of::<Timeout>() == 24);
     assert!(size_of::<RtxStats>() == 64);
     assert!(size_of::<Highest>() == 24);
@@ -273,6 +288,7 @@ lent! {
     bizhgemu_push_rtx(now: u64, datagram: *const u8, datagram_len: usize) -> Pushed;
     bizhgemu_poll(now: u64, out: *mut u8, out_len: usize) -> Polled;
     bizhgemu_poll_nack(now: u64, out: *mut u16, out_len: usize) -> PolledNack;
+    bizhgemu_nack_wire(now: u64, out: *mut u8, out_len: usize) -> PolledWire;
     bizhgemu_timeout_receive(now: u64) -> Timeout;
     bizhgemu_timeout_nack(now: u64) -> Timeout;
     bizhgemu_rtx_stats() -> RtxStats;
@@ -291,6 +307,7 @@ unsafe extern "C" {
         remembered: *mut u64,
         remembered_len: usize,
     ) -> Opened;
+    pub fn bizhgemu_read_nacks(entries: *const u8, entries_len: usize, out: *mut u16, out_len: usize) -> ReadNumbers;
     pub fn bizhgemu_read_settings(line: *const u8, line_len: usize) -> SettingsRead;
     pub fn bizhgemu_write_settings(settings: Settings, out: *mut u8, out_len: usize) -> SettingsWritten;
     // Safe: these three take numbers alone, or nothing, and refuse what they cannot use.

@@ -61,6 +61,7 @@ mod line;
 mod queue;
 mod receiver;
 mod refusal;
+pub mod rtcp;
 mod time;
 mod version;
 
@@ -72,7 +73,7 @@ pub use config::{Config, Dynamic, Mode, Rtx};
 pub use header::Header;
 pub use inspect::{Gap, LastReceived, Remembered, RoundTrip, Waiting};
 pub use line::{LINE_BYTES, LineError};
-pub use queue::Queue;
+pub use queue::{Queue, read_nacks, read_nacks_into};
 pub use receiver::{Event, Heard, Receiver, Rules, Sender, Taken, Tally, Why};
 pub use refusal::Refusal;
 #[cfg(feature = "std")]

@@ -16,6 +16,7 @@ static uint64_t gaps[BIZHGEMU_GAPS(G)];
 static uint64_t remembered[BIZHGEMU_REMEMBERED];
 static uint8_t out[BIZHGEMU_LONGEST_PAYLOAD];
 static uint16_t numbers[G];
+static uint8_t wire[BIZHGEMU_NACK_BYTES(G)];
 static struct bizhgemu_queue q;
 static int checks, failures;
 
@@ -349,9 +350,42 @@ static void refusals(void)
 	IS(repair(0, 1, 0, 0).refusal, BIZHGEMU_REFUSED_NO_RTX);
 	c.clock_rate = 0;
 	IS(open_with(c), BIZHGEMU_REFUSED_SETTINGS);
-	for (uint64_t n = 0; n <= 17; n++)
+	const uint8_t cut[] = {0, 1, 0};
+	IS(bizhgemu_read_nacks(cut, sizeof cut, numbers, G).refusal, BIZHGEMU_REFUSED_NACK_ENTRIES);
+	for (uint64_t n = 0; n <= 18; n++)
 		for (uint64_t m = 0; m < n; m++)
 			IS(strcmp(bizhgemu_refusal_text(n), bizhgemu_refusal_text(m)) != 0, 1);
+}
+
+/* The same stream by both calls: the numbers of the one are those that the entries of the other read back as. */
+static void nacks_on_the_wire(void)
+{
+	uint16_t read[BIZHGEMU_NACK_NUMBERS(BIZHGEMU_NACK_BYTES(G))];
+	size_t count = 0, bytes = 0;
+	for (int by_wire = 0; by_wire < 2; by_wire++) {
+		IS(open_with(settings()), 0);
+		IS(push(0, 65530, 0, 1).refusal, 0);
+		IS(push(0, 65535, 0, 1).refusal, 0);
+		IS(push(0, 20, 0, 1).refusal, 0);
+		IS(bizhgemu_queue_nack_wire(&q, 0, wire, sizeof wire - 1).refusal, BIZHGEMU_REFUSED_OUTPUT);
+		memset(wire, 0xaa, sizeof wire);
+		if (by_wire) {
+			const struct bizhgemu_polled_wire r = bizhgemu_queue_nack_wire(&q, 7 * MS, wire, sizeof wire);
+			IS(r.refusal, 0);
+			bytes = r.bytes;
+			IS(q.session.clock, 7 * MS);
+			IS(bizhgemu_queue_nack_wire(&q, 7 * MS, wire, sizeof wire).bytes, 0);
+		} else {
+			count = nack(7).count;
+			IS(count, 24);
+		}
+	}
+	static const uint8_t expected[] = {0xff, 0xfb, 0xff, 0xf7, 0, 12, 0, 0x7f, 0xaa};
+	IS(bytes, 8);
+	IS(memcmp(wire, expected, sizeof expected), 0);
+	IS(bizhgemu_read_nacks(wire, bytes, read, BIZHGEMU_NACK_NUMBERS(bytes) - 1).refusal, BIZHGEMU_REFUSED_OUTPUT);
+	IS(bizhgemu_read_nacks(wire, bytes, read, BIZHGEMU_NACK_NUMBERS(bytes)).numbers, count);
+	IS(memcmp(read, numbers, count * sizeof *read), 0);
 }
 
 int main(void)
@@ -364,6 +398,7 @@ int main(void)
 	defaults();
 	fields();
 	refusals();
+	nacks_on_the_wire();
 	printf("header against archive: %d checks, %d failures\n", checks, failures);
 	return failures != 0;
 }

@@ -1,10 +1,10 @@
 //! The command line.
 
+use crate::nacks::Nacks;
 use crate::wav::Format;
 use bizhgemu::{Config, Mode, Rtx, Rules, Sender};
 use std::fs::File;
 use std::io::{self, Write};
-use std::net::UdpSocket;
 use std::time::Duration;
 
 pub const USAGE: &str = "usage: listen [OPTION VALUE ..]
@@ -24,7 +24,9 @@ Hears RTP from a UDP port: payloads out in order, a line of figures each second 
   --rtx-pt N           payload type of repairs                       no repairs
   --rtx-ssrc N|media   sender of repairs; media: that of the media   media
   --resend MS          from one NACK to the next while no round trip is measured   20
-  --nack print|ADDRESS NACK numbers: a line on standard error, or a datagram with that line   not told
+  --nack WHERE         where RTCP generic NACKs are sent: source, the address RTP comes from; source+1, the port after it;
+                       HOST:PORT; print, a line on standard error; none   source with --rtx-pt, else none
+  --own-ssrc N         SSRC that they are sent under                 at random
   --restart N|never    packets dropped one after the other that mean a restart     10
   --out FILE           payloads in order, of one caller              standard output, unless --wav is given
   --wav PREFIX         sound of each caller, as PREFIX-SSRC.wav      none
@@ -43,27 +45,6 @@ For example, 5 s of sound from GStreamer, heard and then played:
 Payloads over 320 bytes are refused under 5. GStreamer's payloaders make them as long as the buffers they get, up to mtu=1400: give
 max-ptime. ffmpeg fills packets up to pkt_size=1472: give pkt_size, as rtp://127.0.0.1:5004?pkt_size=172.";
 
-/// What becomes of numbers to NACK. A box sends them as RTCP feedback (RFC 4585); here they are a line of text, which a script can read.
-pub enum Nacks {
-    Untold,
-    Printed,
-    Sent(String),
-}
-
-impl Nacks {
-    pub fn send(&self, socket: &UdpSocket, numbers: &[u16]) -> io::Result<()> {
-        let line = numbers.iter().fold("NACK".to_string(), |line, number| format!("{line} {number}"));
-        match self {
-            Nacks::Untold => {}
-            Nacks::Printed => eprintln!("{line}"),
-            Nacks::Sent(address) => {
-                socket.send_to(format!("{line}\n").as_bytes(), address)?;
-            }
-        }
-        Ok(())
-    }
-}
-
 pub struct Options {
     pub address: String,
     pub config: Config,
@@ -71,7 +52,9 @@ pub struct Options {
     /// None: whoever sends the payload type.
     pub ssrc: Option<u32>,
     pub callers: usize,
-    pub nacks: Nacks,
+    /// None: as the other options say.
+    nacks: Option<Nacks>,
+    pub own_ssrc: Option<u32>,
     pub seconds: Option<Duration>,
     pub wav: Option<String>,
     pub figures: Option<String>,
@@ -91,7 +74,8 @@ impl Options {
             rules: Rules::default(),
             ssrc: None,
             callers: 1,
-            nacks: Nacks::Untold,
+            nacks: None,
+            own_ssrc: None,
             seconds: None,
             wav: None,
             figures: None,
@@ -133,8 +117,8 @@ impl Options {
             "--rtx-ssrc" if value == "media" => self.rtx_ssrc = None,
             "--rtx-ssrc" => self.rtx_ssrc = Some(number(value)?),
             "--resend" => config.default_nack_resend_delay = Duration::from_millis(number(value)?),
-            "--nack" if value == "print" => self.nacks = Nacks::Printed,
-            "--nack" => self.nacks = Nacks::Sent(value.into()),
+            "--nack" => self.nacks = Some(Nacks::named(value)?),
+            "--own-ssrc" => self.own_ssrc = Some(number(value)?),
             "--restart" if value == "never" => self.rules.restart = None,
             "--restart" => self.rules.restart = Some(number(value)?),
             "--out" => self.out = Some(value.into()),
@@ -192,6 +176,12 @@ impl Options {
     /// Whether it is known from the beginning how far media and repairs are apart: by their SSRCs, or because they have one.
     pub fn senders_known(&self) -> bool {
         self.ssrc.is_some() || self.rtx_ssrc.is_none()
+    }
+
+    /// Where NACKs go: where repairs are expected, to whom sends.
+    pub fn nacks(&self) -> Nacks {
+        let usual = if self.config.rtx.is_some() { Nacks::ToSource } else { Nacks::Untold };
+        self.nacks.unwrap_or(usual)
     }
 
     /// How the payloads are decoded, and how many channels they have.
