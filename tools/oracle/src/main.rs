@@ -6,6 +6,7 @@ extern crate box_std as std;
 
 mod answers;
 mod datagram;
+mod nack_entries;
 mod session;
 mod trace;
 
@@ -64,6 +65,12 @@ fn main() -> io::Result<()> {
                 }
                 Err(number) => writeln!(output, "refused {number}")?,
             },
+            Line::Call(Call::ReadNacks(places, entries)) => {
+                match nack_entries::read(&entries, places) {
+                    Ok(numbers) => answers::numbers(&mut output, "numbers", &numbers)?,
+                    Err(number) => writeln!(output, "refused {number}")?,
+                }
+            }
             Line::Call(call) => match &mut session {
                 None => output.write_all(b"no session\n")?,
                 Some(session) => {

@@ -1,10 +1,11 @@
 //! A session: 01's table of refusals before the original's calls.
 //!
-//! Of the table, 15 and 16 cannot be met from a trace: the driver owns its storage. Check 14 can, for timestamps alone:
-//! some two million packets, each near half a cycle on.
+//! Of the table, 16 cannot be met from a trace, the driver owning its storage, and 15 only by the calls of document 02, whose lines say how
+//! much they lend. Check 14 can, for timestamps alone: some two million packets, each near half a cycle on.
 
 use crate::answers;
 use crate::datagram::{self, Packet};
+use crate::nack_entries;
 use crate::rtp::{RtpExtensions, RtpPacket, RtpTimestamp, SequenceNumber, Ssrc};
 use crate::rtp_session::inbound::queue::Queue;
 use crate::rtp_session::inbound::{
@@ -12,6 +13,7 @@ use crate::rtp_session::inbound::{
     RtpInboundStreamSortedQueueMode,
 };
 use crate::trace::Call;
+use std::collections::HashMap;
 use std::io::{self, Write};
 use std::time::{Duration, Instant};
 
@@ -64,7 +66,7 @@ impl Session {
     /// Makes a call and writes its answer; a refused one writes nothing and changes nothing.
     pub fn call(&mut self, call: Call, out: &mut impl Write) -> io::Result<Refusable<()>> {
         match call {
-            Call::Open(_) => unreachable!("an opening replaces the session"),
+            Call::Open(_) | Call::ReadNacks(..) => unreachable!("main makes it"),
             Call::Media(now, bytes) => {
                 answer(self.media(now, &bytes), |word| writeln!(out, "{word}"))
             }
@@ -72,7 +74,12 @@ impl Session {
                 answer(self.repair(now, &bytes), |word| writeln!(out, "{word}"))
             }
             Call::Poll(now) => answer(self.poll(now), |found| answers::packet(out, found)),
-            Call::PollNack(now) => answer(self.poll_nack(now), |due| answers::nack(out, due)),
+            Call::PollNack(now) => answer(self.poll_nack(now), |due| {
+                answers::numbers(out, "nack", &due)
+            }),
+            Call::NackWire(now, places) => answer(self.nack_wire(now, places), |entries| {
+                answers::bytes(out, "wire", &entries)
+            }),
             Call::TimeoutReceive(now) => answer(self.instant(now), |now| {
                 answers::timeout(out, self.queue.timeout_receive(now))
             }),
@@ -204,10 +211,41 @@ impl Session {
         Ok(self.queue.poll(instant))
     }
 
-    fn poll_nack(&mut self, now: u64) -> Refusable<Option<Vec<u16>>> {
+    fn poll_nack(&mut self, now: u64) -> Refusable<Vec<u16>> {
         let instant = self.instant(now)?;
         self.clock = now;
-        Ok(self.queue.poll_nack(instant).map(|nack| nack.0))
+        Ok(self
+            .queue
+            .poll_nack(instant)
+            .map_or(Vec::new(), |nack| nack.0))
+    }
+
+    /// 02, point 1: `poll_nack`, and its numbers as entries. The original has 16 bits of them; the extended numbers are those whose count of
+    /// NACKs rose.
+    fn nack_wire(&mut self, now: u64, places: u64) -> Refusable<Vec<u8>> {
+        if places < 4 * self.max_gaps as u64 {
+            return Err(15);
+        }
+        let before: HashMap<u64, u32> = self.nack_counts().collect();
+        let listed = self.poll_nack(now)?;
+        let due: Vec<u64> = self
+            .nack_counts()
+            .filter(|(number, count)| before[number] < *count)
+            .map(|(number, _)| number)
+            .collect();
+        let low: Vec<u16> = due.iter().map(|number| *number as u16).collect();
+        assert_eq!(
+            low, listed,
+            "the numbers that were counted are those listed"
+        );
+        Ok(nack_entries::write(&due))
+    }
+
+    /// Extended number of each gap, and how often it was NACKed.
+    fn nack_counts(&self) -> impl Iterator<Item = (u64, u32)> {
+        self.queue
+            .gaps()
+            .map(|(number, _, nacked)| (number, nacked.map_or(0, |(_, count)| count)))
     }
 
     /// In sorted mode nothing at or below the last returned number is queued.

@@ -16,6 +16,10 @@ pub enum Call {
     Repair(u64, Vec<u8>),
     Poll(u64),
     PollNack(u64),
+    /// NOW PLACES
+    NackWire(u64, u64),
+    /// PLACES HEX; needs no session
+    ReadNacks(u64, Vec<u8>),
     TimeoutReceive(u64),
     TimeoutNack(u64),
     RtxStats,
@@ -47,6 +51,8 @@ fn call(line: &[u8]) -> Option<Call> {
         (b"repair", [now, hex]) => Call::Repair(number(now)?, bytes(hex)?),
         (b"poll", [now]) => Call::Poll(number(now)?),
         (b"poll_nack", [now]) => Call::PollNack(number(now)?),
+        (b"nack_wire", [now, places]) => Call::NackWire(number(now)?, number(places)?),
+        (b"read_nacks", [places, hex]) => Call::ReadNacks(number(places)?, bytes(hex)?),
         (b"timeout_receive", [now]) => Call::TimeoutReceive(number(now)?),
         (b"timeout_nack", [now]) => Call::TimeoutNack(number(now)?),
         (b"rtx_stats", []) => Call::RtxStats,
