@@ -73,6 +73,11 @@ impl Session {
             Call::Repair(now, bytes) => {
                 answer(self.repair(now, &bytes), |word| writeln!(out, "{word}"))
             }
+            Call::Burst(now, places, buffer, ends) => {
+                answer(self.burst(now, places, &buffer, &ends), |numbers| {
+                    answers::numbers(out, "answers", &numbers)
+                })
+            }
             Call::Poll(now) => answer(self.poll(now), |found| answers::packet(out, found)),
             Call::PollNack(now) => answer(self.poll_nack(now), |due| {
                 answers::numbers(out, "nack", &due)
@@ -118,6 +123,27 @@ impl Session {
         } else {
             "dropped"
         })
+    }
+
+    /// 02, point 4: a media call for each datagram of the buffer; 0 queued, 255 dropped, else the refusal.
+    fn burst(&mut self, now: u64, places: u64, buffer: &[u8], ends: &[u64]) -> Refusable<Vec<u8>> {
+        let fall = ends.windows(2).any(|pair| pair[1] < pair[0]);
+        let pass = ends.iter().any(|end| *end > buffer.len() as u64);
+        if fall || pass || places < ends.len() as u64 {
+            return Err(15);
+        }
+        let mut start = 0;
+        let mut numbers = Vec::new();
+        for end in ends {
+            let end = *end as usize;
+            numbers.push(match self.media(now, &buffer[start..end]) {
+                Ok("queued") => 0,
+                Ok(_) => 255,
+                Err(number) => number,
+            });
+            start = end;
+        }
+        Ok(numbers)
     }
 
     /// Check 14 of a media packet.

@@ -1,7 +1,7 @@
 //! Lines of a trace (docs/TRACE.md) to calls.
 
 /// The longest line, its line feed not counted.
-const LONGEST_LINE: usize = 4095;
+const LONGEST_LINE: usize = 65_535;
 
 pub enum Line {
     PassedOver,
@@ -14,6 +14,8 @@ pub enum Call {
     Open([u64; 13]),
     Media(u64, Vec<u8>),
     Repair(u64, Vec<u8>),
+    /// NOW PLACES HEX and the ends
+    Burst(u64, u64, Vec<u8>, Vec<u64>),
     Poll(u64),
     PollNack(u64),
     /// NOW PLACES
@@ -49,6 +51,12 @@ fn call(line: &[u8]) -> Option<Call> {
         }
         (b"media", [now, hex]) => Call::Media(number(now)?, bytes(hex)?),
         (b"repair", [now, hex]) => Call::Repair(number(now)?, bytes(hex)?),
+        (b"burst", [now, places, hex, ends @ ..]) => Call::Burst(
+            number(now)?,
+            number(places)?,
+            bytes(hex)?,
+            ends.iter().map(|end| number(end)).collect::<Option<_>>()?,
+        ),
         (b"poll", [now]) => Call::Poll(number(now)?),
         (b"poll_nack", [now]) => Call::PollNack(number(now)?),
         (b"nack_wire", [now, places]) => Call::NackWire(number(now)?, number(places)?),
