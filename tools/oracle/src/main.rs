@@ -5,6 +5,7 @@
 extern crate box_std as std;
 
 mod answers;
+mod attempts;
 mod datagram;
 mod nack_entries;
 mod session;
@@ -20,7 +21,7 @@ mod rtp_session {
 
         pub(crate) use queue::config::{
             RtpInboundPassthroughConfig, RtpInboundQueueMode, RtpInboundSortedQueueConfig,
-            RtpInboundStreamSortedQueueMode,
+            RtpInboundStreamDynamicConfig, RtpInboundStreamSortedQueueMode,
         };
     }
 }
@@ -57,7 +58,7 @@ fn main() -> io::Result<()> {
         match trace::read(&line) {
             Line::PassedOver => {}
             Line::Unreadable => output.write_all(b"unreadable\n")?,
-            Line::Call(Call::Open(fields)) => match Session::open(fields) {
+            Line::Call(Call::Open(fields, dynamic)) => match Session::open(fields, dynamic) {
                 Ok(opened) => {
                     DEPTH.store(opened.depth(), Relaxed);
                     session = Some(opened);

@@ -10,7 +10,7 @@ use crate::rtp::{RtpExtensions, RtpPacket, RtpTimestamp, SequenceNumber, Ssrc};
 use crate::rtp_session::inbound::queue::Queue;
 use crate::rtp_session::inbound::{
     RtpInboundPassthroughConfig, RtpInboundQueueMode, RtpInboundSortedQueueConfig,
-    RtpInboundStreamSortedQueueMode,
+    RtpInboundStreamDynamicConfig, RtpInboundStreamSortedQueueMode,
 };
 use crate::trace::Call;
 use std::collections::HashMap;
@@ -36,14 +36,14 @@ pub struct Session {
 
 impl Session {
     /// Check 1, then the original's `Queue::new`.
-    pub fn open(fields: [u64; 13]) -> Refusable<Session> {
+    pub fn open(fields: [u64; 13], dynamic: Option<[u64; 3]>) -> Refusable<Session> {
         let [mode, clock_rate, depth, max_gaps, ..] = fields;
         let [.., pt, ssrc, rtx, rtx_pt, rtx_ssrc] = fields;
-        if !in_range(fields) {
+        if !in_range(fields, dynamic) {
             return Err(1);
         }
         let queue = Queue::new(
-            config(fields),
+            config(fields, dynamic),
             pt as u8,
             Ssrc(ssrc as u32),
             clock_rate as u32,
@@ -51,7 +51,7 @@ impl Session {
         );
         Ok(Session {
             queue,
-            sorted: mode == 1,
+            sorted: mode != 0,
             depth: depth as usize,
             max_gaps: max_gaps as usize,
             rtx: (rtx == 1).then_some((rtx_pt as u8, rtx_ssrc as u32)),
@@ -66,7 +66,7 @@ impl Session {
     /// Makes a call and writes its answer; a refused one writes nothing and changes nothing.
     pub fn call(&mut self, call: Call, out: &mut impl Write) -> io::Result<Refusable<()>> {
         match call {
-            Call::Open(_) | Call::ReadNacks(..) => unreachable!("main makes it"),
+            Call::Open(..) | Call::ReadNacks(..) => unreachable!("main makes it"),
             Call::Media(now, bytes) => {
                 answer(self.media(now, &bytes), |word| writeln!(out, "{word}"))
             }
@@ -301,33 +301,40 @@ impl Session {
 }
 
 /// Check 1, field by field of the opening.
-fn in_range(fields: [u64; 13]) -> bool {
+fn in_range(fields: [u64; 13], dynamic: Option<[u64; 3]>) -> bool {
     let duration = 0..=60_000_000_000;
+    let (modes, attempts) = match dynamic {
+        None => (0..=1, 1..=255),
+        Some(_) => (2..=2, 1..=4),
+    };
+    let dynamic_in_range = dynamic
+        .is_none_or(|[min, max, target]| min <= max && duration.contains(&max) && target <= 9_999);
     let payload_type = 0..=127;
     let sender = 0..=u64::from(u32::MAX);
     let ranges = [
-        0..=1,
+        modes,
         1..=1_000_000,
         1..=1024,
         999..=4096,
         duration.clone(),
         duration.clone(),
         duration,
-        1..=255,
+        attempts,
         payload_type.clone(),
         sender.clone(),
         0..=1,
         payload_type,
         sender,
     ];
-    ranges
-        .iter()
-        .zip(fields)
-        .all(|(range, value)| range.contains(&value))
+    dynamic_in_range
+        && ranges
+            .iter()
+            .zip(fields)
+            .all(|(range, value)| range.contains(&value))
 }
 
 /// The original's settings, of an opening in range.
-fn config(fields: [u64; 13]) -> RtpInboundQueueMode {
+fn config(fields: [u64; 13], dynamic: Option<[u64; 3]>) -> RtpInboundQueueMode {
     let [mode, _, _, _, delay, initial, resend, max, ..] = fields;
     let initial_nack_delay = Duration::from_nanos(initial);
     let default_nack_resend_delay = Duration::from_nanos(resend);
@@ -341,7 +348,16 @@ fn config(fields: [u64; 13]) -> RtpInboundQueueMode {
         })
     } else {
         RtpInboundQueueMode::SortedQueue(RtpInboundSortedQueueConfig {
-            mode: RtpInboundStreamSortedQueueMode::Fixed(Duration::from_nanos(delay)),
+            mode: match dynamic {
+                None => RtpInboundStreamSortedQueueMode::Fixed(Duration::from_nanos(delay)),
+                Some([min, max, target_recovery]) => {
+                    RtpInboundStreamSortedQueueMode::Dynamic(RtpInboundStreamDynamicConfig {
+                        min: Duration::from_nanos(min),
+                        max: Duration::from_nanos(max),
+                        target_recovery,
+                    })
+                }
+            },
             initial_nack_delay,
             default_nack_resend_delay,
             max_nack_attempts,

@@ -10,8 +10,8 @@ pub enum Line {
 }
 
 pub enum Call {
-    /// MODE CLOCK D G DELAY INITIAL RESEND MAX PT SSRC RTX RTXPT RTXSSRC
-    Open([u64; 13]),
+    /// MODE CLOCK D G DELAY INITIAL RESEND MAX PT SSRC RTX RTXPT RTXSSRC, and in mode 2 MIN MAXDELAY T
+    Open([u64; 13], Option<[u64; 3]>),
     Media(u64, Vec<u8>),
     Repair(u64, Vec<u8>),
     /// NOW PLACES HEX and the ends
@@ -42,13 +42,11 @@ pub fn read(line: &[u8]) -> Line {
 fn call(line: &[u8]) -> Option<Call> {
     let fields: Vec<&[u8]> = line.split(|byte| *byte == b' ').collect();
     Some(match (fields[0], &fields[1..]) {
-        (b"open", numbers) if numbers.len() == 13 => {
-            let mut values = [0; 13];
-            for (value, field) in values.iter_mut().zip(numbers) {
-                *value = number(field)?;
-            }
-            Call::Open(values)
+        (b"open", [b"2", ..]) => {
+            let (first, dynamic) = fields[1..].split_at_checked(13)?;
+            Call::Open(numbers(first)?, Some(numbers(dynamic)?))
         }
+        (b"open", first) => Call::Open(numbers(first)?, None),
         (b"media", [now, hex]) => Call::Media(number(now)?, bytes(hex)?),
         (b"repair", [now, hex]) => Call::Repair(number(now)?, bytes(hex)?),
         (b"burst", [now, places, hex, ends @ ..]) => Call::Burst(
@@ -79,6 +77,12 @@ fn number(field: &[u8]) -> Option<u64> {
         b'0'..=b'9' => value.checked_mul(10)?.checked_add(u64::from(digit - b'0')),
         _ => None,
     })
+}
+
+/// As many numbers as there are places.
+fn numbers<const N: usize>(fields: &[&[u8]]) -> Option<[u64; N]> {
+    let values: Option<Vec<u64>> = fields.iter().map(|field| number(field)).collect();
+    values?.try_into().ok()
 }
 
 /// An even number of lower-case hexadecimal digits, or `-` for no bytes.
