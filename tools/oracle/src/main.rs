@@ -9,6 +9,7 @@ mod attempts;
 mod datagram;
 mod nack_entries;
 mod session;
+mod settings_line;
 mod trace;
 
 #[allow(dead_code, unused_imports)]
@@ -69,6 +70,16 @@ fn main() -> io::Result<()> {
             Line::Call(Call::ReadNacks(places, entries)) => {
                 match nack_entries::read(&entries, places) {
                     Ok(numbers) => answers::numbers(&mut output, "numbers", &numbers)?,
+                    Err(number) => writeln!(output, "refused {number}")?,
+                }
+            }
+            Line::Call(Call::ReadSettings(line)) => match settings_line::read(&line) {
+                Ok(settings) => answers::numbers(&mut output, "settings", &settings)?,
+                Err(number) => writeln!(output, "refused {number}")?,
+            },
+            Line::Call(Call::WriteSettings([places, settings @ ..])) => {
+                match settings_line::write(settings, places) {
+                    Ok(line) => answers::bytes(&mut output, "line", line.as_bytes())?,
                     Err(number) => writeln!(output, "refused {number}")?,
                 }
             }

@@ -66,7 +66,10 @@ impl Session {
     /// Makes a call and writes its answer; a refused one writes nothing and changes nothing.
     pub fn call(&mut self, call: Call, out: &mut impl Write) -> io::Result<Refusable<()>> {
         match call {
-            Call::Open(..) | Call::ReadNacks(..) => unreachable!("main makes it"),
+            Call::Open(..)
+            | Call::ReadNacks(..)
+            | Call::ReadSettings(_)
+            | Call::WriteSettings(_) => unreachable!("main makes it"),
             Call::Media(now, bytes) => {
                 answer(self.media(now, &bytes), |word| writeln!(out, "{word}"))
             }

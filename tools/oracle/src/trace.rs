@@ -27,6 +27,10 @@ pub enum Call {
     RtxStats,
     Highest,
     State,
+    /// HEX; needs no session
+    ReadSettings(Vec<u8>),
+    /// PLACES MODE CLOCK D G DELAY INITIAL RESEND MAX MIN MAXDELAY T; needs no session
+    WriteSettings([u64; 12]),
 }
 
 pub fn read(line: &[u8]) -> Line {
@@ -64,6 +68,8 @@ fn call(line: &[u8]) -> Option<Call> {
         (b"rtx_stats", []) => Call::RtxStats,
         (b"highest", []) => Call::Highest,
         (b"state", []) => Call::State,
+        (b"read_settings", [hex]) => Call::ReadSettings(bytes(hex)?),
+        (b"write_settings", first) => Call::WriteSettings(numbers(first)?),
         _ => return None,
     })
 }
