@@ -82,7 +82,9 @@ class Writer:
             self.model.poll(now)
 
     def poll_nack(self, now, aim=None):
-        self.line(f"poll_nack {now}", aim)
+        """As a list of numbers or, one time in three, as entries on the wire."""
+        places = 4 * self.model.max_gaps
+        self.line(self.pick(f"poll_nack {now}", f"poll_nack {now}", f"nack_wire {now} {places}"), aim)
         if self.model.clock <= now <= MAX_INSTANT:
             self.model.poll_nack(now)
 
@@ -432,6 +434,69 @@ def remembered(w):
         w.line("state")
 
 
+def masks(w):
+    """Missing numbers in runs of every shape about the sixteen of a mask, across 65,535 too, asked for on the wire; outputs too short."""
+    w.open(initial=w.pick(0, 0, 5 * MS), resend=w.pick(0, 20 * MS), depth=w.pick(20, 1024), max=w.pick(1, 3, 255), delay=60000 * MS)
+    m, places = w.model, 4 * w.model.max_gaps
+    number = w.pick(65500, 65520, 65535, w.random.randrange(2**16))
+    w.media(w.random.randrange(2**30), number, 0)
+    for _ in range(w.random.randrange(2, 8)):
+        step = w.pick(2, 3, 16, 17, 18, 19, 33, 34, 35, w.random.randrange(2, 80), 500)
+        if len(m.gaps) + step - 1 <= m.max_gaps:
+            w.media(w.later(), m.last[2] + step, m.last[1] + 160)
+        for missing in w.random.sample(list(m.gaps), int(len(m.gaps) * w.pick(0, 0.1, 0.5, 0.9))):
+            (w.repair if m.rtx and w.chance(0.5) else w.media)(m.clock, missing, 5)
+        now = max(m.clock, *m.due_instants()) if m.gaps and w.chance(0.6) else w.later()
+        w.line(f"nack_wire {now} {w.pick(0, places - 1, places - 4)}", "entries for an output too short")
+        if w.chance(0.1):
+            w.line(f"nack_wire {max(0, m.clock - 1)} {places - 1}", "entries for an output too short, before the clock")
+        w.line(f"nack_wire {now} {w.pick(places, places, places + 1, 2**64 - 1)}", "entries of the missing numbers")
+        m.poll_nack(now)
+        w.look(m.clock)
+
+
+def two_cycles(w):
+    """Passthrough: a number stays missing for more than a cycle, so that the 16 bits of two missing ones are next to each other."""
+    w.open(mode=0, initial=0, resend=w.pick(0, 0, 20 * MS), max=255, depth=1, clock_rate=8000, max_gaps=w.pick(999, 1500))
+    m, number = w.model, w.random.randrange(2**16)
+    now = w.random.randrange(2**30)
+    w.media(now, number, 0)
+    w.media(now, number + 3, 0)
+    first, beyond = m.last[2] - 2, m.last[2] - 2 + 2**16 + w.pick(0, 1, 2, 15, 16, 17)
+    while m.last[2] < beyond - 1:
+        w.poll(now)    # else the next packet pushes it out, and what is missing below with it
+        if beyond - 1 - m.last[2] > 400:
+            w.media(now, m.last[2] + 400, m.last[1] + 1, payload=b"")
+            for missing in list(m.gaps)[2:]:
+                w.poll(now)
+                w.media(now, missing, 0, payload=b"")
+        else:
+            w.media(now, m.last[2] + 1, m.last[1] + 1, payload=b"")
+    w.poll(now)
+    w.media(now, beyond + 1, m.last[1] + 1)
+    w.line(f"nack_wire {now} {4 * m.max_gaps}", "entries of numbers a cycle apart" if first in m.gaps else None)
+    m.poll_nack(now)
+    w.line("state")
+    w.poll_nack(w.later())
+    w.look(m.clock)
+
+
+def entries(w):
+    """Entries for the reader: made by a writer and by none, lists of every length, bytes that are no whole entries."""
+    for _ in range(w.random.randrange(100, 200)):
+        count = w.pick(0, 1, 1, 2, 3, w.random.randrange(20), w.random.randrange(120))
+        first = lambda: w.pick(0, 1, 65535, 65520, 65519, w.random.randrange(2**16))
+        mask = lambda: w.pick(0, 1, 2**15, 2**16 - 1, w.random.randrange(2**16))
+        data = b"".join(first().to_bytes(2, "big") + mask().to_bytes(2, "big") for _ in range(count))
+        if w.chance(0.2):
+            data += w.random.randbytes(w.random.randrange(1, 4))
+        least = 17 * (len(data) // 4)
+        places = w.pick(least, least, least, least + 1, 2**64 - 1, max(0, least - 1), w.random.randrange(least + 1))
+        aims = {(0, 0): "whole entries", (0, 1): "entries with 1 to 3 bytes more", (1, 0): "entries for a list too short",
+                (1, 1): "entries for a list too short, with 1 to 3 bytes more"}
+        w.line(f"read_nacks {places} {hexed(data)}", aims[places < least, len(data) % 4 > 0])
+
+
 def giving_up(w):
     """Passthrough: numbers NACKed the most often allowed are lost at the next poll, of an empty queue too."""
     w.open(mode=0, max=w.pick(1, 2, 3, 255), initial=w.pick(0, 5 * MS), resend=w.pick(0, 1, 20 * MS), depth=w.pick(2, 100))
@@ -485,6 +550,7 @@ def clocks(w):
     w.poll(now)
     for call in ("poll", "poll_nack", "timeout_receive", "timeout_nack"):
         w.line(f"{call} {m.clock - 1}", "instant before the clock")
+    w.line(f"nack_wire {m.clock - 1} {4 * m.max_gaps}", "instant before the clock")
     w.line(f"timeout_receive {now + 10}")
     w.poll_nack(now)
     good = datagram(m.pt, 2, 0, m.ssrc).hex()
@@ -616,7 +682,8 @@ def lines(w):
     session = "open 1 8000 2 999 5 5 5 3 0 1 1 97"
     bad = ["poll", "poll ", "poll  0", " poll 0", "poll 0 ", "poll 00", "poll 01", "poll -1", "poll +1", "poll 1.0", "poll 0x5",
            f"poll {2**64}", f"poll {10 * 2**64}", "poll -", "poll 5\r", "poll\t5", "Poll 5", "polls 5", "poll_nack", "poll_nack 1 1",
-           "pollnack 1", "timeout 5", "timeout_receive", "timeout_nack a", "rtx_stats 0", "rtx_stats ", "highest 1", "state 0",
+           "pollnack 1", "nack_wire 5", "nack_wire 5 ", "nack_wire 5 4000 1", "nack_wire 5 -", f"nack_wire 5 {2**64}",
+           "read_nacks 5", "read_nacks -", "read_nacks 17 0", "read_nacks 17 ", "read_nacks 17 - -", f"read_nacks {2**64} -", "timeout 5", "timeout_receive", "timeout_nack a", "rtx_stats 0", "rtx_stats ", "highest 1", "state 0",
            "state ", "state state", "media", "media 0", "media 0 ", "media 0 8", "media 0 8g", "media 0 80FF", "media 0 0x80",
            "media 0 --", "media 0 80 80", "media - 80", "media  0 80", f"media {2**64} 80", "repair 0", "repair 0 ", "repair 0 123",
            "open", "open 1", session, f"{session} ", f"{session} -", f"{session} 2 2", f"{session} {2**64}", f"{session} 02",
@@ -668,15 +735,15 @@ def far(w):
     w.line("state")
 
 
-# How often each is drawn; `far` is not
-WEIGHTS = {stream: 6, mixture: 10, due_instants: 4, limits: 4, jitter: 3, deep: 0.3, steps: 2, wraps: 2, joins: 2, wired: 2, full: 3, remembered: 1,
+# How often each is drawn; `far` and `two_cycles` are not
+WEIGHTS = {stream: 6, mixture: 10, due_instants: 4, limits: 4, jitter: 3, deep: 0.3, steps: 2, wraps: 2, masks: 4, entries: 2, joins: 2, wired: 2, full: 3, remembered: 1,
            giving_up: 3, wide: 2, clocks: 1, malformed: 1, flips: 1, openings: 1, lines: 1}
-PROFILES = {profile.__name__: profile for profile in (*WEIGHTS, far)}
+PROFILES = {profile.__name__: profile for profile in (*WEIGHTS, far, two_cycles)}
 
 
 def before_any_session(w):
-    for call in ("poll", "media", "repair", "poll_nack", "timeout_receive", "timeout_nack", "rtx_stats", "highest", "state"):
-        fields = {"media": " 0 80", "repair": " 0 -", "rtx_stats": "", "highest": "", "state": ""}.get(call, " 0")
+    for call in ("poll", "media", "repair", "poll_nack", "nack_wire", "timeout_receive", "timeout_nack", "rtx_stats", "highest", "state"):
+        fields = {"media": " 0 80", "repair": " 0 -", "nack_wire": " 0 0", "rtx_stats": "", "highest": "", "state": ""}.get(call, " 0")
         w.line(call + fields, "call before any session")
     w.line("open 1 0 2 999 5 5 5 3 0 1 1 97 2", "refused opening before any session")
     w.line("poll 0", "call before any session")

@@ -15,6 +15,8 @@ ANSWERS = {call: words.split(",") for call, words in {
     "repair": f"no session,recovered,redundant,too late,refused 9,{_DATAGRAM},refused 10,refused 11,refused 13",
     "poll": "no session,nothing,packet,refused 8",
     "poll_nack": "no session,nothing,nack,refused 8",
+    "nack_wire": "no session,nothing,wire,refused 15,refused 8",
+    "read_nacks": "nothing,numbers,refused 15,refused 17",
     "timeout_receive": "no session,none,after,refused 8",
     "timeout_nack": "no session,none,after,refused 8",
     "rtx_stats": "no session,none,rtx",
@@ -29,7 +31,7 @@ MEANINGS = {
     1: "settings", 2: "datagram too short", 3: "version not 2", 4: "padding", 5: "payload too long", 6: "foreign payload type",
     7: "foreign sender", 8: "clock going back or past its end", 9: "repair without RTX", 10: "repair before any packet",
     11: "repair without a number", 12: "no place for the gaps", 13: "no place for the repair", 14: "count past its end",
-    15: "output too short", 16: "session or storage damaged",
+    15: "output too short", 16: "session or storage damaged", 17: "no whole NACK entries",
 }
 
 
