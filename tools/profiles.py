@@ -1,5 +1,6 @@
 """The profiles of tools/generate: each writes a session, or a few, aimed at some rules of 01."""
 
+import itertools
 import random
 
 from aim import Model
@@ -59,13 +60,22 @@ class Writer:
         return dict(marker=self.pick(0, 1), csrcs=self.pick(0, 0, 1, 15), extension=self.pick(None, None, 0, 1, 3),
                     padding=self.pick(0, 0, 1, 4, 255))
 
+    def media_datagram(self, number, timestamp, payload=None):
+        m = self.model
+        return datagram(m.pt, number % 2**16, timestamp % 2**32, m.ssrc, self.payload() if payload is None else payload, **self.extras())
+
     def media(self, now, number, timestamp, aim=None, payload=None):
         m = self.model
-        number, timestamp = number % 2**16, timestamp % 2**32
-        data = datagram(m.pt, number, timestamp, m.ssrc, self.payload() if payload is None else payload, **self.extras())
-        self.line(f"media {now} {data.hex()}", aim)
+        self.line(f"media {now} {self.media_datagram(number, timestamp, payload).hex()}", aim)
         if m.clock <= now <= MAX_INSTANT:
-            m.media(now, number, timestamp)
+            m.media(now, number % 2**16, timestamp % 2**32)
+
+    def burst(self, now, datagrams, aim=None, places=None, after=b"", ends=None):
+        """Datagrams in one buffer; `after` stands behind the last of them. The model is the caller's to keep."""
+        if ends is None:
+            ends = list(itertools.accumulate(map(len, datagrams)))
+        places = len(ends) if places is None else places
+        self.line(" ".join(map(str, ("burst", now, places, hexed(b"".join(datagrams) + after), *ends))), aim)
 
     def repair(self, now, number, timestamp, aim=None, payload=None):
         m = self.model
@@ -191,6 +201,47 @@ def mixture(w):
             w.poll_nack(now)
         else:
             w.nack_at_due() if w.chance(0.5) else w.poll_at_limit()
+        w.look(m.clock)
+
+
+def bursts(w):
+    """Dozens of datagrams in one call: new, late, repeated and crooked ones, none at all, and ends or answer lists that are refused."""
+    w.open(depth=w.pick(1, 3, 20, 100), delay=w.pick(0, 20 * MS), initial=w.pick(0, 5 * MS))
+    m, number, timestamp = w.model, w.pick(65530, w.random.randrange(2**16)), w.random.randrange(2**32)
+    if w.chance(0.5):
+        w.media(w.random.randrange(2**30), number, timestamp)
+    for _ in range(w.random.randrange(4, 12)):
+        now, datagrams = w.later(), []
+        for _ in range(w.pick(0, 1, 2, 5, w.random.randrange(40))):
+            at = m.number(number % 2**16) if m.last is None else m.last[2]
+            chosen = w.pick(at + 1, at + 1, at + 1, at + w.pick(2, 3, 20, 1000, 1001), at, at - 1, *list(m.gaps)[:3])
+            timestamp = (m.last[1] if m.last else timestamp) + w.pick(0, 160, 160, w.random.randrange(500))
+            if w.chance(0.15):
+                faults = {fault for fault in ("short", "version", "CSRCs", "padding", "long", "type", "sender") if w.chance(0.3)}
+                datagrams.append(crooked(w, faults, m.pt, m.ssrc, LONGEST) if faults else b"")
+            else:
+                datagrams.append(w.media_datagram(chosen, timestamp))
+                m.media(now, chosen % 2**16, timestamp % 2**32)
+        whole = b"".join(datagrams)
+        ends = list(itertools.accumulate(map(len, datagrams)))
+        if ends and w.chance(0.5):
+            bad = list(ends)
+            at, kind = w.random.randrange(len(ends)), w.random.randrange(3)
+            if kind == 0 and 0 < ends[at]:
+                bad.insert(at + 1, ends[at] - 1)
+                w.burst(now, datagrams, "burst with ends that fall", places=len(bad), ends=bad)
+            elif kind == 1:
+                bad[-1] = len(whole) + w.pick(1, 2**32, 2**64 - 1 - len(whole))
+                w.burst(w.pick(now, 0), datagrams, "burst with an end past the buffer", ends=bad)
+            else:
+                w.burst(w.pick(now, 0), datagrams, "burst with a short answer list", places=len(ends) - 1)
+        w.burst(now, datagrams, "burst" if datagrams else "burst of no datagram", places=len(ends) + w.pick(0, 0, 1, 2**40), after=w.random.randbytes(w.pick(0, 0, 5)))
+        if m.clock and w.chance(0.2):
+            w.burst(m.clock - 1, datagrams[:3], "burst before the clock" if datagrams else None)
+        if w.chance(0.5):
+            w.line("state")
+        for _ in range(w.random.randrange(4)):
+            (w.poll if w.chance(0.6) else w.poll_nack)(w.later())
         w.look(m.clock)
 
 
@@ -687,18 +738,24 @@ def lines(w):
            "state ", "state state", "media", "media 0", "media 0 ", "media 0 8", "media 0 8g", "media 0 80FF", "media 0 0x80",
            "media 0 --", "media 0 80 80", "media - 80", "media  0 80", f"media {2**64} 80", "repair 0", "repair 0 ", "repair 0 123",
            "open", "open 1", session, f"{session} ", f"{session} -", f"{session} 2 2", f"{session} {2**64}", f"{session} 02",
-           "unreadable", "-", " ", "  ", " # no comment", "poll 5#", "media 0 80 # comment", "\x00", "poll \x005", "é", "\x7f"]
+           "burst", "burst 0", "burst 0 0", "burst 0 0 ", "burst 0 0 - ", "burst 0 1 8 0", "burst 0 1 80 00", "burst 0 1 80 -", f"burst 0 1 80 {2**64}",
+           "burst - 0 -", "burst 0 - -", "unreadable", "-", " ", "  ", " # no comment", "poll 5#", "media 0 80 # comment", "\x00", "poll \x005", "é", "\x7f"]
     for line in w.random.sample(bad, len(bad)):
         w.line(line, "line that is no call")
         if w.chance(0.05):
             w.line("state")
     for text in ("", "#", "# ordinary comment", "#poll 5", "# " + "x" * 5000):
         w.lines.append(text)
-    for length in (4094, 4095, 4096, 4097, 5000, 70000):
+    for length in (4095, 4096, 65534, 65535, 65536, 65537, 70000):
         head = f"media {m.clock + (5 if length % 2 == 0 else 10)} "    # the digits are even in number
         w.line(head + "8" * (length - len(head)), f"datagram in a line of {length} bytes")
+    for length in (65535, 65536):
         w.line("x" * length, "line that is no call")
         w.line("poll " + "0" * (length - 5), "line that is no call")
+    many = f"burst {m.clock} 40000 -"
+    w.line(many + " 0" * ((65535 - len(many)) // 2), "burst of as many datagrams as a line holds")
+    most = (65535 - len("read_nacks 139264 ")) // 8 if w.most_depth == 1024 else 2000
+    w.line("read_nacks 139264 " + "0000ffff" * most, "a list of numbers longer than a block")
     w.line("highest")
     w.line("state")
 
@@ -736,14 +793,14 @@ def far(w):
 
 
 # How often each is drawn; `far` and `two_cycles` are not
-WEIGHTS = {stream: 6, mixture: 10, due_instants: 4, limits: 4, jitter: 3, deep: 0.3, steps: 2, wraps: 2, masks: 4, entries: 2, joins: 2, wired: 2, full: 3, remembered: 1,
+WEIGHTS = {stream: 6, mixture: 10, bursts: 4, due_instants: 4, limits: 4, jitter: 3, deep: 0.3, steps: 2, wraps: 2, masks: 4, entries: 2, joins: 2, wired: 2, full: 3, remembered: 1,
            giving_up: 3, wide: 2, clocks: 1, malformed: 1, flips: 1, openings: 1, lines: 1}
 PROFILES = {profile.__name__: profile for profile in (*WEIGHTS, far, two_cycles)}
 
 
 def before_any_session(w):
-    for call in ("poll", "media", "repair", "poll_nack", "nack_wire", "timeout_receive", "timeout_nack", "rtx_stats", "highest", "state"):
-        fields = {"media": " 0 80", "repair": " 0 -", "nack_wire": " 0 0", "rtx_stats": "", "highest": "", "state": ""}.get(call, " 0")
+    for call in ("poll", "media", "burst", "repair", "poll_nack", "nack_wire", "timeout_receive", "timeout_nack", "rtx_stats", "highest", "state"):
+        fields = {"media": " 0 80", "burst": " 0 0 80 5", "repair": " 0 -", "nack_wire": " 0 0", "rtx_stats": "", "highest": "", "state": ""}.get(call, " 0")
         w.line(call + fields, "call before any session")
     w.line("open 1 0 2 999 5 5 5 3 0 1 1 97 2", "refused opening before any session")
     w.line("poll 0", "call before any session")

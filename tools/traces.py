@@ -12,6 +12,7 @@ _DATAGRAM = "refused 2,refused 3,refused 4,refused 5,refused 6,refused 7,refused
 ANSWERS = {call: words.split(",") for call, words in {
     "open": "opened,refused 1",
     "media": f"no session,queued,dropped,{_DATAGRAM},refused 12",
+    "burst": "no session,nothing,answers,refused 15",
     "repair": f"no session,recovered,redundant,too late,refused 9,{_DATAGRAM},refused 10,refused 11,refused 13",
     "poll": "no session,nothing,packet,refused 8",
     "poll_nack": "no session,nothing,nack,refused 8",
