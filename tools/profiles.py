@@ -3,8 +3,8 @@
 import itertools
 import random
 
-from aim import Model
-from traces import FIELDS, MAX_INSTANT, datagram, hexed, repair_payload
+from aim import Model, attempts, loss_after, ten_thousandths
+from traces import DYNAMIC_FIELDS, FIELDS, MAX_INSTANT, datagram, hexed, opening, repair_payload
 
 MS = 10**6
 LONGEST = 320
@@ -35,7 +35,7 @@ class Writer:
     def open(self, **given):
         pick, draw = self.pick, self.random.randrange
         settings = dict(
-            mode=pick(0, 1, 1), clock_rate=pick(8000, 8000, 16000, 48000, 90000, 1, 1000000, draw(1, 1000001)),
+            mode=pick(0, 0, 1, 1, 2), clock_rate=pick(8000, 8000, 16000, 48000, 90000, 1, 1000000, draw(1, 1000001)),
             depth=pick(1, 2, 3, 5, 20, 100, 1024, draw(1, 1025)), max_gaps=pick(999, 999, 1000, 1500, 4096, draw(999, 4097)),
             delay=pick(0, 20 * MS, 100 * MS, 100 * MS, 60000 * MS, draw(200 * MS)),
             initial=pick(0, 5 * MS, 5 * MS, 60000 * MS, draw(10 * MS)), resend=pick(0, 20 * MS, 20 * MS, 60000 * MS, draw(30 * MS)),
@@ -43,7 +43,12 @@ class Writer:
             rtx=pick(0, 1, 1), rtx_pt=pick(0, 97, 127), rtx_ssrc=draw(2**32))
         settings.update(given)
         settings.update(depth=min(settings["depth"], self.most_depth), max_gaps=min(settings["max_gaps"], self.most_gaps))
-        self.line("open " + " ".join(str(settings[field]) for field in FIELDS))
+        if settings["mode"] == 2:
+            shortest = settings["delay"] if "delay" in given else pick(0, 10 * MS, draw(100 * MS))
+            longest = pick(shortest, max(shortest, 400 * MS), 60000 * MS)
+            settings = dict(dict(min=shortest, max_delay=longest, target=pick(9900, 9999, 0, draw(10000))), **settings)
+            settings["max"] = min(settings["max"], 4)
+        self.line(opening(settings))
         self.model = Model(settings)
 
     def payload(self):
@@ -202,6 +207,59 @@ def mixture(w):
         else:
             w.nack_at_due() if w.chance(0.5) else w.poll_at_limit()
         w.look(m.clock)
+
+
+def dynamic(w):
+    """Mode 2: the delay follows jitter, losses and the round trip, between its ends; with repairs that are samples and without."""
+    w.open(mode=2, rtx=w.pick(0, 1, 1, 1), depth=w.pick(5, 20, 100), initial=w.pick(0, 5 * MS), resend=w.pick(0, 20 * MS), max=w.pick(1, 2, 3, 4, 4),
+           min=w.pick(0, 0, 1, 10 * MS), max_delay=w.pick(10 * MS, 400 * MS, 60000 * MS, 60000 * MS), clock_rate=w.pick(8000, 48000, 90000, 1, 1000000))
+    m, ticks = w.model, max(1, w.model.clock_rate // 50)
+    number, timestamp, now = w.random.randrange(2**16), w.random.randrange(2**32), w.random.randrange(2**40)
+    loss, trip, spread = w.pick(0, 0.02, 0.2, 0.6), w.pick(0, 1000, w.random.randrange(80 * MS)), w.pick(1, 2 * MS, 30 * MS, 2000 * MS)
+    for packet in range(w.random.randrange(20, 80)):
+        now = max(m.clock, now + 20 * MS + w.random.randrange(spread) - spread // 2)
+        number, timestamp = number + (w.pick(2, 3) if w.chance(loss) else 1), timestamp + ticks
+        w.media(now, number, timestamp)
+        w.line(f"timeout_receive {m.clock}", "timeout of a dynamic delay")
+        if m.gaps and w.chance(0.6):
+            w.poll_nack(w.later())
+            for missing in list(m.gaps)[:w.pick(0, 1, 1, 2)]:
+                w.repair(m.clock + trip, missing, timestamp - ticks)
+        if w.chance(0.5):
+            w.poll_at_limit()
+        w.poll(m.clock, "poll with a dynamic delay")
+        w.look(m.clock)
+
+
+def attempts_edges(w):
+    """Mode 2: a target at which the loss is just enough for n attempts, or just not; the delay of the next hand-out shows which."""
+    lost = [w.chance(0.5) for _ in range(w.pick(1, 2, 5, w.random.randrange(1, 60)))]
+    if w.chance(0.2):
+        lost = [True] * w.pick(70, 300, 700)
+    share, loss = w.pick(0, 1, 5, 40), 0.0
+    for one in lost:    # a repair that came, and the packet that opened its gap
+        for event in [False] * (1 + share) + ([True] if one else []):
+            loss = loss_after(loss, event)
+    k, n = ten_thousandths(loss), w.pick(1, 2, 3)
+    edge = 10000 - -(-k**n // 10**(4 * n - 4))    # the largest target that k^n meets
+    target = min(9999, max(0, edge + w.pick(0, 0, 1, -1)))
+    w.open(mode=2, rtx=1, depth=1024, max=w.pick(2, 3, 4, 4), min=w.pick(0, 10 * MS), max_delay=60000 * MS, target=target, clock_rate=8000, initial=0, resend=0,
+           max_gaps=999)
+    m, number, now = w.model, w.random.randrange(2**16), w.random.randrange(2**40)
+    w.media(now, number, 0)
+    for one in lost:
+        for _ in range(share):
+            w.media(m.clock, m.last[2] + 1, m.last[1], payload=b"")
+        w.media(m.clock, m.last[2] + (2 if one else 1), m.last[1], payload=b"")
+        if one:
+            w.line(f"poll_nack {m.clock}")
+            m.poll_nack(m.clock)
+            w.repair(m.clock + 30 * MS, m.last[2] - 1, m.last[1], payload=b"")
+    met = attempts(ten_thousandths(m.loss), m.target, m.max)
+    side = "on" if target == edge else "a step above" if target == edge + 1 else "off"
+    w.line(f"timeout_receive {m.clock}")
+    w.poll(m.clock + 60000 * MS, f"dynamic delay of {met} attempts, target {side} the edge")
+    w.line("state")
 
 
 def bursts(w):
@@ -715,10 +773,22 @@ def openings(w):
         low, high = edges[field]
         for value in [high + 1, 2**32, 2**32 + low, 2**64 - 1] + ([low - 1, 0] if low else []):
             settings = dict(good, **{field: value})
-            if low <= value <= high:
+            if low <= value <= high or field == "mode" and value == 2:
                 continue
             w.line("open " + " ".join(str(settings[name]) for name in FIELDS), f"opening with {field} out of range")
         w.line("state")
+    good_dynamic = dict(good, mode=2, min=5, max_delay=5, target=9999)
+    for field, value in (("max", 0), ("max", 5), ("max", 255), ("max", 2**32 + 1), ("min", 6), ("min", 60 * 10**9 + 1), ("max_delay", 4), ("max_delay", 60 * 10**9 + 1),
+                         ("max_delay", 2**64 - 1), ("target", 10000), ("target", 2**32), ("target", 2**64 - 1), ("delay", 60 * 10**9 + 1), ("depth", 0)):
+        w.line(opening(dict(good_dynamic, **{field: value})), f"dynamic opening with {field} out of range")
+    for mode in (0, 1, 2, 3, 2**64 - 1):
+        fields = FIELDS + (DYNAMIC_FIELDS if mode != 2 else [])
+        w.line("open " + " ".join(str(dict(good_dynamic, mode=mode)[name]) for name in fields), "opening with the fields of another mode")
+    w.line("state")
+    for field, value in (("max", 1), ("max", 4), ("min", 0), ("max_delay", 60 * 10**9), ("target", 0), ("delay", 60 * 10**9)):
+        w.open(**dict(good_dynamic, **{field: value}))
+        w.media(5, 10, 0)
+        w.look(5)
     for field in w.random.sample(FIELDS, 4):
         w.open(**dict(good, **{field: w.random.choice(edges[field])}))
         w.media(5, 10, 0)
@@ -793,7 +863,7 @@ def far(w):
 
 
 # How often each is drawn; `far` and `two_cycles` are not
-WEIGHTS = {stream: 6, mixture: 10, bursts: 4, due_instants: 4, limits: 4, jitter: 3, deep: 0.3, steps: 2, wraps: 2, masks: 4, entries: 2, joins: 2, wired: 2, full: 3, remembered: 1,
+WEIGHTS = {stream: 6, mixture: 10, dynamic: 4, attempts_edges: 3, bursts: 4, due_instants: 4, limits: 4, jitter: 3, deep: 0.3, steps: 2, wraps: 2, masks: 4, entries: 2, joins: 2, wired: 2, full: 3, remembered: 1,
            giving_up: 3, wide: 2, clocks: 1, malformed: 1, flips: 1, openings: 1, lines: 1}
 PROFILES = {profile.__name__: profile for profile in (*WEIGHTS, far, two_cycles)}
 

@@ -5,6 +5,7 @@ import struct
 import sys
 
 FIELDS = "mode clock_rate depth max_gaps delay initial resend max pt ssrc rtx rtx_pt rtx_ssrc".split()
+DYNAMIC_FIELDS = "min max_delay target".split()    # in mode 2 alone
 MAX_INSTANT = 2**52 - 1
 
 # Every answer of every call that a trace can meet, without its values
@@ -70,6 +71,11 @@ def datagram(pt, number, timestamp, ssrc, payload=b"", marker=0, csrcs=0, extens
 def repair_payload(number, payload=b""):
     """RFC 4588, section 4: the original number, then the original payload."""
     return number.to_bytes(2, "big") + payload
+
+
+def opening(settings):
+    fields = FIELDS + (DYNAMIC_FIELDS if settings["mode"] == 2 else [])
+    return "open " + " ".join(str(settings[field]) for field in fields)
 
 
 def hexed(data):
