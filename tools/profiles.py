@@ -795,6 +795,65 @@ def openings(w):
         w.look(5)
 
 
+# The settings that a line keeps, as `write_settings` has them, and both ends of each range
+KEPT = "mode clock_rate depth max_gaps delay initial resend max min max_delay target".split()
+ENDS = dict(zip(KEPT, ((0, 2), (1, 10**6), (1, 1024), (999, 4096), (0, 60 * 10**9), (0, 60 * 10**9), (0, 60 * 10**9), (1, 255), (0, 60 * 10**9),
+                       (0, 60 * 10**9), (0, 9999))))
+
+
+def kept(w):
+    """Settings in range, often at an end of it."""
+    s = {name: w.pick(low, high, w.random.randrange(low, high + 1)) for name, (low, high) in ENDS.items()}
+    if s["mode"] == 2:
+        s["min"], s["max_delay"] = sorted((s["min"], s["max_delay"]))
+        s["max"] = w.pick(1, 4, w.random.randrange(1, 5))
+    else:
+        s.update(min=0, max_delay=0, target=0)
+    return s if s["mode"] == 1 else dict(s, delay=0)
+
+
+def damaged(w, s):
+    """The settings with one of them out of range, or not 0 where it must be, and what is wrong."""
+    name = w.pick(*KEPT)
+    low, high = ENDS[name]
+    value, aim = w.pick(high + 1, max(0, low - 1), 10**12 - 1, 5), f"{name} out of range or not 0"
+    if name == "min" and s["mode"] == 2:
+        value = s["max_delay"] + 1
+    return dict(s, **{name: value}), aim
+
+
+def settings_lines(w):
+    """Settings lines of both versions, read and written: every range at both ends and beyond, and lines with a byte or a length wrong."""
+    def line(version, s, window=0):
+        fields = [version] + [s[name] for name in KEPT[:8]] + ([window] if version == 1 else [s[name] for name in KEPT[8:]])
+        return bytearray("".join(f"{field:>12}" for field in fields) + "\n", "ascii")
+
+    for _ in range(w.random.randrange(40, 80)):
+        s, aim = kept(w), "settings in range"
+        if w.chance(0.4):
+            s, aim = damaged(w, s)
+        places = w.pick(145, 145, 146, 2**64 - 1, 144, 0)
+        w.line(f"write_settings {places} " + " ".join(str(s[name]) for name in KEPT), aim if places >= 145 else f"{aim}, an output under 145 bytes")
+        version = w.pick(1, 2, 2)
+        data = line(version, {name: s[name] % 10**12 for name in KEPT}, w.pick(0, 200 * MS, 10**12 - 1))
+        w.line(f"read_settings {data.hex()}", f"line of version {version}: {aim}")
+        at, kind = w.random.randrange(len(data)), w.random.randrange(6)
+        if kind == 0:
+            data[at] = w.pick(32, 48, 49, 57, 47, 58, 9, 10, 0, 255, w.random.randrange(256))
+        elif kind == 1:
+            del data[at:at + w.pick(1, 12, 24)]
+        elif kind == 2:
+            data[at:at] = w.pick(b" ", b"0", bytes(12), b" " * 11 + b"0", b"\n")
+        elif kind == 3:
+            data = data[:at] if w.chance(0.5) else data[:w.pick(0, 1, 11, 12, 13, 24, 120, 121, 144)]
+        elif kind == 4:
+            at = 12 * w.random.randrange(1, len(data) // 12)
+            data[at:at + 12] = w.pick(b"000000000007", b"          07", b" " * 12, b"           -", b"1          1", b"        1   ", b"999999999999", b"          +7")
+        else:
+            data[:12] = w.pick(b"           0", b"           3", b"          01", b"1           ", b"          12", b"           a", b"           1", b"           2")
+        w.line(f"read_settings {hexed(bytes(data))}", "settings line with something altered")
+
+
 def lines(w):
     """Lines that are no call, lines passed over, and calls of the longest size."""
     w.open()
@@ -809,7 +868,9 @@ def lines(w):
            "media 0 --", "media 0 80 80", "media - 80", "media  0 80", f"media {2**64} 80", "repair 0", "repair 0 ", "repair 0 123",
            "open", "open 1", session, f"{session} ", f"{session} -", f"{session} 2 2", f"{session} {2**64}", f"{session} 02",
            "burst", "burst 0", "burst 0 0", "burst 0 0 ", "burst 0 0 - ", "burst 0 1 8 0", "burst 0 1 80 00", "burst 0 1 80 -", f"burst 0 1 80 {2**64}",
-           "burst - 0 -", "burst 0 - -", "unreadable", "-", " ", "  ", " # no comment", "poll 5#", "media 0 80 # comment", "\x00", "poll \x005", "é", "\x7f"]
+           "burst - 0 -", "burst 0 - -", "read_settings", "read_settings ", "read_settings 2", "read_settings 20 20", "read_settings - ", "write_settings 145",
+           "write_settings 145 1 8000 2 999 5 5 5 3 0 0", "write_settings 145 1 8000 2 999 5 5 5 3 0 0 0 0", "write_settings 145 1 8000 2 999 5 5 5 3 0 0 -",
+           f"write_settings 145 1 8000 2 999 5 5 5 3 0 0 {2**64}", "unreadable", "-", " ", "  ", " # no comment", "poll 5#", "media 0 80 # comment", "\x00", "poll \x005", "é", "\x7f"]
     for line in w.random.sample(bad, len(bad)):
         w.line(line, "line that is no call")
         if w.chance(0.05):
@@ -864,7 +925,7 @@ def far(w):
 
 # How often each is drawn; `far` and `two_cycles` are not
 WEIGHTS = {stream: 6, mixture: 10, dynamic: 4, attempts_edges: 3, bursts: 4, due_instants: 4, limits: 4, jitter: 3, deep: 0.3, steps: 2, wraps: 2, masks: 4, entries: 2, joins: 2, wired: 2, full: 3, remembered: 1,
-           giving_up: 3, wide: 2, clocks: 1, malformed: 1, flips: 1, openings: 1, lines: 1}
+           giving_up: 3, wide: 2, clocks: 1, malformed: 1, flips: 1, openings: 1, settings_lines: 2, lines: 1}
 PROFILES = {profile.__name__: profile for profile in (*WEIGHTS, far, two_cycles)}
 
 

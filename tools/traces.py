@@ -24,6 +24,8 @@ ANSWERS = {call: words.split(",") for call, words in {
     "rtx_stats": "no session,none,rtx",
     "highest": "no session,none,highest",
     "state": "no session,state",
+    "read_settings": "settings,refused 21,refused 20,refused 1",
+    "write_settings": "line,refused 1,refused 15",
     "(no call)": "unreadable",
 }.items()}
 
@@ -34,6 +36,7 @@ MEANINGS = {
     7: "foreign sender", 8: "clock going back or past its end", 9: "repair without RTX", 10: "repair before any packet",
     11: "repair without a number", 12: "no place for the gaps", 13: "no place for the repair", 14: "count past its end",
     15: "output too short", 16: "session or storage damaged", 17: "no whole NACK entries",
+    20: "settings line not in its form", 21: "settings line of no known version",
 }
 
 
