@@ -243,7 +243,7 @@ def attempts_edges(w):
     k, n = ten_thousandths(loss), w.pick(1, 2, 3)
     edge = 10000 - -(-k**n // 10**(4 * n - 4))    # the largest target that k^n meets
     target = min(9999, max(0, edge + w.pick(0, 0, 1, -1)))
-    w.open(mode=2, rtx=1, depth=1024, max=w.pick(2, 3, 4, 4), min=w.pick(0, 10 * MS), max_delay=60000 * MS, target=target, clock_rate=8000, initial=0, resend=0,
+    w.open(mode=2, rtx=1, depth=20, max=w.pick(2, 3, 4, 4), min=w.pick(0, 10 * MS), max_delay=60000 * MS, target=target, clock_rate=8000, initial=0, resend=0,
            max_gaps=999)
     m, number, now = w.model, w.random.randrange(2**16), w.random.randrange(2**40)
     w.media(now, number, 0)
@@ -877,12 +877,12 @@ def lines(w):
             w.line("state")
     for text in ("", "#", "# ordinary comment", "#poll 5", "# " + "x" * 5000):
         w.lines.append(text)
-    for length in (4095, 4096, 65534, 65535, 65536, 65537, 70000):
+    lengths = (4095, 4096, 65534, 65535, 65536, 65537, 70000) if w.most_depth == 1024 else (65535, 65536, 70000)
+    for length in lengths:
         head = f"media {m.clock + (5 if length % 2 == 0 else 10)} "    # the digits are even in number
         w.line(head + "8" * (length - len(head)), f"datagram in a line of {length} bytes")
-    for length in (65535, 65536):
-        w.line("x" * length, "line that is no call")
-        w.line("poll " + "0" * (length - 5), "line that is no call")
+    w.line("poll " + "0" * 65530, "line that is no call")
+    w.line("x" * 65536, "line that is no call")
     many = f"burst {m.clock} 40000 -"
     w.line(many + " 0" * ((65535 - len(many)) // 2), "burst of as many datagrams as a line holds")
     most = (65535 - len("read_nacks 139264 ")) // 8 if w.most_depth == 1024 else 2000
