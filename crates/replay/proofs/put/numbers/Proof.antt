@@ -3,8 +3,8 @@ use Prim.Native.Nat.{_≤_, _-_}
 use mathlib.Core.Path.{_≡_}
 use lib.ListN.{length}
 use borrow.Author.Needs.{needs}
-use Rattle.replay.proofs.answer.numbers.Statement.{statement}
-use Rattle.replay.proofs.answer.numbers.Tie as tie
+use Rattle.replay.proofs.put.numbers.Statement.{statement}
+use Rattle.replay.proofs.put.numbers.Tie as tie
 
 abbrev Inv-loop : tie.InvT-loop
 Inv-loop out₀ at list count to₀ i₀ out to i = (i ≤ count) × (length out ≡ length out₀)
@@ -20,6 +20,9 @@ same-length c = search needs
 
 returns : tie.Need-returns Inv-loop μ-loop
 returns c = search needs
+
+room-requires : tie.Need-room-requires Inv-loop μ-loop
+room-requires c κs = search needs
 
 mul-wide : tie.Need-mul-wide Inv-loop μ-loop
 mul-wide c = search needs
@@ -57,6 +60,7 @@ numbers-spec =
     loop-holds
     same-length
     returns
+    room-requires
     mul-wide
     shared-slice-read-wide
     wide-requires
