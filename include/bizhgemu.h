@@ -60,7 +60,14 @@ extern "C" {
 #define BIZHGEMU_GAPS(G) (4 * (G))
 #define BIZHGEMU_REMEMBERED 2048
 
-/* Why a call was turned back; `bizhgemu_refusal_text` has it in words. More numbers may come (17 to 21 are planned), so let a
+/* The bytes that `nack_wire` must be lent for most gaps G, and the numbers that `read_nacks` must be lent for so many bytes of entries. */
+#define BIZHGEMU_NACK_BYTES(G) (4 * (G))
+#define BIZHGEMU_NACK_NUMBERS(BYTES) (17 * ((BYTES) / 4))
+
+/* The bytes of a settings line. */
+#define BIZHGEMU_SETTINGS_LINE 145
+
+/* Why a call was turned back; `bizhgemu_refusal_text` has it in words. More numbers may come (18 and 19 are planned), so let a
  * switch have a default. Checks run in the order of docs/USING.md, "Refusals in the field", not of these numbers; there
  * it also says what to do about each. Below, "2 to 7" stands for 2 (under 12 bytes), 3, 2 (CSRCs and extension), 4, 5, 6, 7. */
 enum bizhgemu_refusal {
@@ -79,33 +86,44 @@ enum bizhgemu_refusal {
 	BIZHGEMU_REFUSED_GAPS_FULL = 12,          /* more gaps than max_gaps would be open */
 	BIZHGEMU_REFUSED_ENTRIES_FULL = 13,       /* repair with 2 * max_entries packets waiting */
 	BIZHGEMU_REFUSED_COUNT = 14,              /* a number, timestamp or counter would pass 2^52 - 1, or a NACK count 2^32 - 1 */
-	BIZHGEMU_REFUSED_OUTPUT = 15,             /* lent output under 320 bytes, or under max_gaps numbers */
-	BIZHGEMU_REFUSED_SESSION = 16             /* session or storage that no call leaves, as far as row 16 sees it, or not of these settings */
+	BIZHGEMU_REFUSED_OUTPUT = 15,             /* lent output under 320 bytes, max_gaps numbers, 4 * max_gaps bytes; settings line of 145; list under 17 numbers for each four bytes */
+	BIZHGEMU_REFUSED_SESSION = 16,            /* session or storage that no call leaves, as far as row 16 sees it, or not of these settings */
+	BIZHGEMU_REFUSED_NACK_ENTRIES = 17,       /* entries of a NACK that are not a multiple of 4 bytes */
+	BIZHGEMU_REFUSED_SETTINGS_LINE = 20,      /* settings line of another length or without its line feed, or a field that is no number */
+	BIZHGEMU_REFUSED_LINE_VERSION = 21        /* settings line that does not begin with eleven blanks and version 1 or 2 */
 };
 
 /* `mode` of the settings. */
 enum bizhgemu_mode {
-	BIZHGEMU_PASSTHROUGH = 0, /* packets are handed out at once; late ones come out of order */
-	BIZHGEMU_SORTED_QUEUE = 1 /* in order, `delay` after their time */
+	BIZHGEMU_PASSTHROUGH = 0,  /* packets are handed out at once; late ones come out of order */
+	BIZHGEMU_SORTED_QUEUE = 1, /* in order, `delay` after their time */
+	BIZHGEMU_DYNAMIC = 2       /* in order, after their time by a delay that follows jitter, loss and round trip */
 };
 
 /* `answer` to a media packet, and to a repair, where `refusal` is 0. */
 enum bizhgemu_media { BIZHGEMU_QUEUED = 0, BIZHGEMU_DROPPED = 1 };
 enum bizhgemu_repair { BIZHGEMU_RECOVERED = 0, BIZHGEMU_REDUNDANT = 1, BIZHGEMU_TOO_LATE = 2 };
 
-/* The settings. Every field is checked at the opening, used by the mode or not. */
+/* The answer numbers of a burst's datagrams; any other is the number of a refusal. */
+enum bizhgemu_burst_answer { BIZHGEMU_ANSWER_QUEUED = 0, BIZHGEMU_ANSWER_DROPPED = 255 };
+
+/* The settings. Every field is checked at the opening, used by the mode or not, but for the three that BIZHGEMU_DYNAMIC alone has. */
 struct bizhgemu_config {
 	/* Durations in nanoseconds, each at most 60,000,000,000. */
 	uint64_t delay;                     /* sorted: from when a packet was due, by its timestamp, to its hand-out */
 	uint64_t initial_nack_delay;        /* from the detection of a gap to its first NACK */
 	uint64_t default_nack_resend_delay; /* from one NACK to the next while no round trip was measured; after that it is the
 	                                     * round trip's own, at least a millisecond */
-	uint64_t nack_window;               /* has no effect, as in the original queue */
+	/* Of BIZHGEMU_DYNAMIC alone; in another mode they are not looked at, and are 0 in a session. */
+	uint64_t min_delay;                 /* shortest delay, not above the longest */
+	uint64_t max_delay;                 /* longest delay */
+	uint64_t target_recovery;           /* of ten thousand losses, how many the NACKs are to recover: 0 to 9,999 */
 	/* Sizes: they set the lengths of the storage. */
 	size_t max_entries;                 /* depth D: packets kept, 1 to 1,024 */
 	size_t max_gaps;                    /* G: most missing numbers at a time, 999 to 4,096 */
 	uint32_t clock_rate;                /* of the RTP timestamps, 1 to 1,000,000 Hz */
-	uint32_t max_nack_attempts;         /* NACKs after which passthrough gives a number up, 1 to 255 */
+	uint32_t max_nack_attempts;         /* passthrough: NACKs after which a number is given up, 1 to 255; dynamic: most NACKs that
+	                                     * the delay leaves time for, 1 to 4 */
 	uint32_t mode;                      /* enum bizhgemu_mode */
 	uint32_t has_rtx;                   /* whether the sender answers NACKs by repairs (RFC 4588), 0 or 1 */
 	/* Whose packets the session takes: SSRC, and payload type from 0 to 127, of media and of repairs. */
@@ -164,6 +182,13 @@ struct bizhgemu_pushed {
 	struct bizhgemu_session session;
 };
 
+/* Of a burst: how many answer numbers stand in `answers`, one for each datagram. */
+struct bizhgemu_pushed_burst {
+	uint64_t refusal;
+	size_t answers;
+	struct bizhgemu_session session;
+};
+
 /* A packet that is handed out; its payload is in the lent output. A repair has its original number, and payload type and
  * SSRC of media. */
 struct bizhgemu_packet {
@@ -190,6 +215,19 @@ struct bizhgemu_polled_nack {
 	uint64_t refusal;
 	size_t count;
 	struct bizhgemu_session session;
+};
+
+/* `bytes` bytes are in the lent output, four to an entry; 0: nothing is due. */
+struct bizhgemu_polled_wire {
+	uint64_t refusal;
+	size_t bytes;
+	struct bizhgemu_session session;
+};
+
+/* `numbers` numbers are in the lent list. */
+struct bizhgemu_read_numbers {
+	uint64_t refusal;
+	size_t numbers;
 };
 
 /* The time from `now` until a packet or a NACK should be asked for; there may be none then (docs/USING.md). No timeout:
@@ -230,6 +268,32 @@ struct bizhgemu_figures {
 	float loss;      /* 0 to 1; a repaired packet counts as lost */
 };
 
+/* The settings that a line keeps: those of struct bizhgemu_config without its senders, each with the same meaning and range. */
+struct bizhgemu_settings {
+	uint64_t delay;                     /* 0 outside BIZHGEMU_SORTED_QUEUE, or there is no line */
+	uint64_t initial_nack_delay;
+	uint64_t default_nack_resend_delay;
+	uint64_t min_delay;                 /* these three: of BIZHGEMU_DYNAMIC; 0 in another mode, or there is no line */
+	uint64_t max_delay;
+	uint64_t target_recovery;
+	size_t max_entries;
+	size_t max_gaps;
+	uint32_t clock_rate;
+	uint32_t max_nack_attempts;
+	uint32_t mode;
+};
+
+struct bizhgemu_settings_read {
+	uint64_t refusal;
+	struct bizhgemu_settings settings; /* zeros beside a refusal */
+};
+
+/* `bytes` bytes of the lent output are the line. */
+struct bizhgemu_settings_written {
+	uint64_t refusal;
+	size_t bytes;
+};
+
 /* Lengths of the four arrays, in elements. */
 struct bizhgemu_lengths {
 	uint64_t refusal;
@@ -246,17 +310,23 @@ struct bizhgemu_lengths {
 #else
 #define BIZHGEMU_SIZE(NAME, BYTES) typedef char NAME##_has_its_size[sizeof(struct NAME) == (BYTES) ? 1 : -1]
 #endif
-BIZHGEMU_SIZE(bizhgemu_config, 80);
-BIZHGEMU_SIZE(bizhgemu_session, 272);
-BIZHGEMU_SIZE(bizhgemu_opened, 280);
-BIZHGEMU_SIZE(bizhgemu_pushed, 288);
+BIZHGEMU_SIZE(bizhgemu_config, 96);
+BIZHGEMU_SIZE(bizhgemu_session, 288);
+BIZHGEMU_SIZE(bizhgemu_opened, 296);
+BIZHGEMU_SIZE(bizhgemu_pushed, 304);
+BIZHGEMU_SIZE(bizhgemu_pushed_burst, 304);
 BIZHGEMU_SIZE(bizhgemu_packet, 48);
-BIZHGEMU_SIZE(bizhgemu_polled, 336);
-BIZHGEMU_SIZE(bizhgemu_polled_nack, 288);
+BIZHGEMU_SIZE(bizhgemu_polled, 352);
+BIZHGEMU_SIZE(bizhgemu_polled_nack, 304);
+BIZHGEMU_SIZE(bizhgemu_polled_wire, 304);
+BIZHGEMU_SIZE(bizhgemu_read_numbers, 16);
 BIZHGEMU_SIZE(bizhgemu_timeout, 24);
 BIZHGEMU_SIZE(bizhgemu_rtx_stats, 64);
 BIZHGEMU_SIZE(bizhgemu_highest, 24);
 BIZHGEMU_SIZE(bizhgemu_figures, 56);
+BIZHGEMU_SIZE(bizhgemu_settings, 80);
+BIZHGEMU_SIZE(bizhgemu_settings_read, 88);
+BIZHGEMU_SIZE(bizhgemu_settings_written, 16);
 BIZHGEMU_SIZE(bizhgemu_lengths, 40);
 #undef BIZHGEMU_SIZE
 
@@ -271,12 +341,32 @@ uint64_t bizhgemu_version(void);
 /* How long the four arrays must be. Refused under 1 where max_entries or max_gaps is out of its range. */
 struct bizhgemu_lengths bizhgemu_lengths(size_t max_entries, size_t max_gaps);
 
+/* Reads settings kept as a line of text: version, mode, clock rate, max_entries, max_gaps, delay, initial_nack_delay,
+ * default_nack_resend_delay, max_nack_attempts, min_delay, max_delay, target_recovery, each decimal and right-justified after blanks in 12
+ * columns, and a line feed, 145 bytes. Version 1 has modes 0 and 1 and in place of the last three one number, which is discarded: 121 bytes.
+ * Refused under 21, 20, 1. */
+struct bizhgemu_settings_read bizhgemu_read_settings(const uint8_t *line, size_t line_len);
+
+/* Writes the line of these settings, always of version 2, to the front of `out`, of at least BIZHGEMU_SETTINGS_LINE bytes; what lies behind it
+ * there is kept. It reads back to the same settings, and no other line of version 2 does. Refused under 1, 15. */
+struct bizhgemu_settings_written bizhgemu_write_settings(struct bizhgemu_settings settings, uint8_t *out, size_t out_len);
+
 /* Opens a session and clears its storage. Refused under 1 for a setting, then under 16 for a length. */
 struct bizhgemu_opened bizhgemu_open(struct bizhgemu_config config, BIZHGEMU_STORAGE);
 
 /* Takes a media datagram, header and all. Refused under 16, 8, 2 to 7, 14, 12. */
 struct bizhgemu_pushed bizhgemu_push(struct bizhgemu_session session, BIZHGEMU_STORAGE,
 	uint64_t now, const uint8_t *datagram, size_t datagram_len);
+
+/* Takes media datagrams that came together as single calls of bizhgemu_push at one instant, and writes one answer number for
+ * each to `answers`: BIZHGEMU_ANSWER_QUEUED, BIZHGEMU_ANSWER_DROPPED, or the number of its refusal, which stops none of the
+ * later ones. `ends` says where each ends in `buffer`: the first starts at byte 0, each further one where the one before it
+ * ends; bytes after the last end are ignored, and places of `answers` past the last datagram are kept. The whole call is refused
+ * under 15 alone: an end below the one before it or past the buffer, or fewer places in `answers` than ends. Looks through session
+ * and storage once, so that a datagram costs what its own place does. */
+struct bizhgemu_pushed_burst bizhgemu_push_burst(struct bizhgemu_session session, BIZHGEMU_STORAGE,
+	uint64_t now, const uint8_t *buffer, size_t buffer_len, const uint64_t *ends, size_t ends_len,
+	uint8_t *answers, size_t answers_len);
 
 /* Takes a repair: the RTX packet as it was sent (RFC 4588). Refused under 16, 8, 9, 2 to 7, 10, 11, 14, 13. */
 struct bizhgemu_pushed bizhgemu_push_rtx(struct bizhgemu_session session, BIZHGEMU_STORAGE,
@@ -292,10 +382,21 @@ struct bizhgemu_polled bizhgemu_poll(struct bizhgemu_session session, BIZHGEMU_S
 struct bizhgemu_polled_nack bizhgemu_poll_nack(struct bizhgemu_session session, BIZHGEMU_STORAGE,
 	uint64_t now, uint16_t *out, size_t out_len);
 
+/* The same numbers as they go over the wire, in place of poll_nack and with the same effect: entries of a generic NACK (RFC 4585, section
+ * 6.2.1) are written to `out`, of at least 4 * max_gaps bytes; what lies behind them there is kept. An entry is a number and a mask of the
+ * sixteen that follow it, its lowest bit for the next, both high byte first; there are as few as can name these numbers. The RTCP packet
+ * around them, 12 bytes before, is the caller's (docs/USING.md, "NACKs on the wire"). Refused under 16, 15, 8, 14. */
+struct bizhgemu_polled_wire bizhgemu_nack_wire(struct bizhgemu_session session, BIZHGEMU_STORAGE,
+	uint64_t now, uint8_t *out, size_t out_len);
+
+/* The sender's side: writes the numbers that such entries name to `out`, of at least 17 numbers for each four bytes, entry by entry, its
+ * first number and then those of its mask from the lowest bit; what lies behind them there is kept. Refused under 15, 17. */
+struct bizhgemu_read_numbers bizhgemu_read_nacks(const uint8_t *entries, size_t entries_len, uint16_t *out, size_t out_len);
+
 /* The time until `poll` should be called. Does not advance the clock. Refused under 16, 8. */
 struct bizhgemu_timeout bizhgemu_timeout_receive(struct bizhgemu_session session, BIZHGEMU_STORAGE, uint64_t now);
 
-/* The time until `poll_nack` should be called. Does not advance the clock. Refused under 16, 8. */
+/* The time until `poll_nack` or `nack_wire` should be called. Does not advance the clock. Refused under 16, 8. */
 struct bizhgemu_timeout bizhgemu_timeout_nack(struct bizhgemu_session session, BIZHGEMU_STORAGE, uint64_t now);
 
 /* The figures of repairs. Refused under 16. */
@@ -317,7 +418,9 @@ static inline struct bizhgemu_config bizhgemu_default_config(uint8_t pt, uint32_
 	config.delay = UINT64_C(100000000);
 	config.initial_nack_delay = UINT64_C(5000000);
 	config.default_nack_resend_delay = UINT64_C(20000000);
-	config.nack_window = UINT64_C(200000000);
+	config.min_delay = UINT64_C(10000000);
+	config.max_delay = UINT64_C(400000000);
+	config.target_recovery = 9900;
 	config.max_entries = 100;
 	config.max_gaps = 999;
 	config.clock_rate = 8000;
@@ -352,6 +455,9 @@ static inline const char *bizhgemu_refusal_text(uint64_t refusal)
 	case BIZHGEMU_REFUSED_COUNT: return "a number, timestamp or counter would pass 2^52 - 1, or a NACK count 2^32 - 1";
 	case BIZHGEMU_REFUSED_OUTPUT: return "the lent output is too short";
 	case BIZHGEMU_REFUSED_SESSION: return "session or storage is damaged, or not that of these settings";
+	case BIZHGEMU_REFUSED_NACK_ENTRIES: return "the entries of a NACK are not a multiple of 4 bytes";
+	case BIZHGEMU_REFUSED_SETTINGS_LINE: return "the settings line has the wrong length, no line feed at its end, or a field that is not a number after blanks";
+	case BIZHGEMU_REFUSED_LINE_VERSION: return "the settings line does not begin with eleven blanks and version 1 or 2";
 	default: return "not a refusal of this version";
 	}
 }
@@ -401,6 +507,15 @@ static inline struct bizhgemu_pushed bizhgemu_queue_push(struct bizhgemu_queue *
 	return r;
 }
 
+static inline struct bizhgemu_pushed_burst bizhgemu_queue_push_burst(struct bizhgemu_queue *q, uint64_t now, const uint8_t *buffer,
+	size_t length, const uint64_t *ends, size_t count, uint8_t *answers, size_t places)
+{
+	const struct bizhgemu_pushed_burst r = bizhgemu_push_burst(q->session, BIZHGEMU_LENT(q), now, buffer, length, ends, count, answers, places);
+	if (r.refusal == 0)
+		q->session = r.session;
+	return r;
+}
+
 static inline struct bizhgemu_pushed bizhgemu_queue_push_rtx(struct bizhgemu_queue *q, uint64_t now, const uint8_t *datagram, size_t length)
 {
 	const struct bizhgemu_pushed r = bizhgemu_push_rtx(q->session, BIZHGEMU_LENT(q), now, datagram, length);
@@ -420,6 +535,14 @@ static inline struct bizhgemu_polled bizhgemu_queue_poll(struct bizhgemu_queue *
 static inline struct bizhgemu_polled_nack bizhgemu_queue_poll_nack(struct bizhgemu_queue *q, uint64_t now, uint16_t *out, size_t length)
 {
 	const struct bizhgemu_polled_nack r = bizhgemu_poll_nack(q->session, BIZHGEMU_LENT(q), now, out, length);
+	if (r.refusal == 0)
+		q->session = r.session;
+	return r;
+}
+
+static inline struct bizhgemu_polled_wire bizhgemu_queue_nack_wire(struct bizhgemu_queue *q, uint64_t now, uint8_t *out, size_t length)
+{
+	const struct bizhgemu_polled_wire r = bizhgemu_nack_wire(q->session, BIZHGEMU_LENT(q), now, out, length);
 	if (r.refusal == 0)
 		q->session = r.session;
 	return r;

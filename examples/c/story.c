@@ -1,5 +1,5 @@
-/* A stream with a loss, a NACK, repairs and a strange datagram, through the queue; then a packet in passthrough, and the latest
- * instant. `make -C examples/c` builds it, runs it and compares what it prints with story.expected. */
+/* A stream with a loss, a NACK, repairs and a strange datagram, through the queue; then in passthrough a loss that is asked for by an RTCP
+ * packet, and the latest instant. `make -C examples/c` builds it, runs it and compares what it prints with story.expected. */
 
 #include "bizhgemu.h"
 
@@ -7,7 +7,7 @@
 #include <string.h>
 
 enum { D = 16, G = 999, PT = 0, RTX_PT = 97, PAYLOAD = 4 };
-static const uint32_t SSRC = 0x1234, RTX_SSRC = 0x5678;
+static const uint32_t SSRC = 0x1234, RTX_SSRC = 0x5678, OWN_SSRC = 7;
 static const uint64_t MS = 1000000;
 
 static uint64_t entries[BIZHGEMU_ENTRIES(D)];
@@ -108,6 +108,27 @@ static int wake(struct bizhgemu_queue *q, uint64_t ms)
 	return nack.refusal || polled.refusal || sleep.refusal;
 }
 
+/* What is due, as an RTCP packet that asks the sender for it: transport-layer feedback (RFC 4585, section 6.1), 12 bytes and the entries of a
+ * generic NACK. A host with more gaps than a datagram holds sends several. Whether the call was refused. */
+static int ask(struct bizhgemu_queue *q, uint64_t ms)
+{
+	uint8_t packet[12 + BIZHGEMU_NACK_BYTES(G)];
+	const struct bizhgemu_polled_wire nack = bizhgemu_queue_nack_wire(q, ms * MS, packet + 12, sizeof packet - 12);
+	if (nack.bytes == 0)
+		return nack.refusal != 0;
+	const size_t length = 12 + nack.bytes;
+	packet[0] = 0x81; /* version 2, no padding, format 1: generic NACK */
+	packet[1] = 205; /* transport-layer feedback */
+	put(packet + 2, (uint32_t)(length / 4 - 1), 2);
+	put(packet + 4, OWN_SSRC, 4);
+	put(packet + 8, SSRC, 4);
+	printf("%3d ms  RTCP", (int)ms);
+	for (size_t i = 0; i < length; i++)
+		printf("%s%02x", i % 4 ? "" : " ", packet[i]);
+	printf("\n");
+	return 0;
+}
+
 static int figures(struct bizhgemu_queue *q)
 {
 	const struct bizhgemu_figures f = bizhgemu_queue_figures(q);
@@ -177,6 +198,9 @@ int main(void)
 		return 1;
 	push(&q, 0, 65534, SSRC);
 	failed |= wake(&q, 0);
+	push(&q, 20, 1, SSRC); /* 65535 and 0 are missing */
+	failed |= ask(&q, 20);
+	failed |= ask(&q, 25);
 	printf("refusal at the latest instant: %d\n", refusal_at(&q, BIZHGEMU_LATEST));
 	printf("refusal one later: %d\n", refusal_at(&q, BIZHGEMU_LATEST + 1));
 	return failed;

@@ -1,7 +1,9 @@
 //! A path that loses packets, between a sender of RTP and `listen`: it passes datagrams on, loses one in so many, and repairs (RFC 4588)
-//! those that `listen` names by `--nack`. FROM is the address it listens at, for the sender and for NACK lines alike; TO is where
-//! `listen` listens.
+//! those that `listen` asks for by RTCP generic NACKs (RFC 4585). FROM is the address it listens at, for the sender and for RTCP alike; TO is
+//! where `listen` listens.
 
+use bizhgemu::rtcp::{GenericNack, packets};
+use bizhgemu::{Header, read_nacks};
 use std::collections::VecDeque;
 use std::io::{self, ErrorKind};
 use std::net::UdpSocket;
@@ -34,9 +36,11 @@ impl Path {
         !self.seen.is_multiple_of(self.lose_one_in)
     }
 
-    /// Answers a line `NACK N1 N2 ..` by repairs, a round trip later.
-    fn nack(&mut self, line: &str) {
-        for number in line.split_whitespace().filter_map(|word| word.parse::<u16>().ok()) {
+    /// Answers the generic NACKs of an RTCP datagram by repairs, a round trip later.
+    fn rtcp(&mut self, datagram: &[u8]) {
+        let nacks = packets(datagram).into_iter().flatten().filter_map(|packet| GenericNack::read(packet).ok());
+        let numbers: Vec<u16> = nacks.filter_map(|nack| read_nacks(nack.entries).ok()).flatten().collect();
+        for number in numbers {
             let number = number.to_be_bytes();
             let Some(media) = self.kept.iter().rev().find(|media| media[2..4] == number) else {
                 continue;
@@ -58,6 +62,11 @@ impl Path {
         }
         self.repairs.pop_front().map(|(_, repair)| repair)
     }
+}
+
+/// RFC 5761, section 4: how the two are told apart where they share a port.
+fn is_rtcp(datagram: &[u8]) -> bool {
+    Header::of(datagram).is_some_and(|header| header.may_be_rtcp())
 }
 
 fn main() -> io::Result<()> {
@@ -87,7 +96,7 @@ fn run(mut path: Path, socket: &UdpSocket, to: &str, end: Instant) -> io::Result
     let mut bytes = [0; 2048];
     while Instant::now() < end {
         match socket.recv(&mut bytes) {
-            Ok(length) if bytes.starts_with(b"NACK ") => path.nack(&String::from_utf8_lossy(&bytes[..length])),
+            Ok(length) if is_rtcp(&bytes[..length]) => path.rtcp(&bytes[..length]),
             Ok(length) if length >= 12 && path.media(&bytes[..length]) => {
                 socket.send_to(&bytes[..length], to)?;
             }

@@ -1,7 +1,7 @@
 //! What the public interface cannot say: lengths and words that `Queue` never hands over, and values word by word.
 
 use crate::ffi;
-use crate::queue::{LONGEST_PAYLOAD, Storage, lend};
+use crate::queue::{ENTRY_BYTES, LONGEST_PAYLOAD, Storage, lend};
 use crate::{Config, Mode, Queue, Refusal, Rtx};
 use std::time::Duration;
 
@@ -71,12 +71,14 @@ struct Lent {
     storage: Storage,
     payload: Vec<u8>,
     numbers: Vec<u16>,
+    wire: Vec<u8>,
 }
 
 fn lent() -> Lent {
     let Queue { session, storage, .. } = used();
     let (payload, numbers) = (vec![0xaa; LONGEST_PAYLOAD], vec![0xaaaa; session.config.max_gaps]);
-    Lent { cycle: session.last_number & !0xffff, session, storage, payload, numbers }
+    let wire = vec![0xaa; ENTRY_BYTES * session.config.max_gaps];
+    Lent { cycle: session.last_number & !0xffff, session, storage, payload, numbers, wire }
 }
 
 /// Calls, each answered by the number of its refusal, or by 0.
@@ -127,17 +129,25 @@ impl Lent {
         self.session = polled.session;
         polled.refusal
     }
+
+    fn nack_wire(&mut self, now: u64) -> u64 {
+        let (place, length) = (self.wire.as_mut_ptr(), self.wire.len());
+        let polled = lend!(bizhgemu_nack_wire, self.session, self.storage, now, place, length);
+        self.session = polled.session;
+        polled.refusal
+    }
 }
 
 /// A call at an instant.
 type Call = fn(&mut Lent, u64) -> u64;
 
-/// The eight calls, and the figures, which are lent no storage.
-const CALLS: [Call; 9] = [
+/// The nine calls, and the figures, which are lent no storage.
+const CALLS: [Call; 10] = [
     |l, now| l.push_next(now, &[9]),
     |l, now| l.repair(now, 14, &[9]),
     Lent::poll,
     Lent::poll_nack,
+    Lent::nack_wire,
     |l, now| lend!(bizhgemu_timeout_receive, l.session, l.storage, now).refusal,
     |l, now| lend!(bizhgemu_timeout_nack, l.session, l.storage, now).refusal,
     |l, _| lend!(bizhgemu_rtx_stats, l.session, l.storage).refusal,
@@ -154,7 +164,7 @@ fn refusal(lent: &Lent, now: u64, call: Call) -> u64 {
 }
 
 /// What each of `CALLS` answers.
-fn refusals(lent: &Lent, now: u64) -> [u64; 9] {
+fn refusals(lent: &Lent, now: u64) -> [u64; 10] {
     CALLS.map(|call| refusal(lent, now, call))
 }
 
@@ -174,11 +184,12 @@ fn words(session: &ffi::Session) -> Vec<u64> {
 
 fn config_words(config: &ffi::Config) -> Vec<u64> {
     let c = config;
-    let durations = [c.delay, c.initial_nack_delay, c.default_nack_resend_delay, c.nack_window];
+    let durations = [c.delay, c.initial_nack_delay, c.default_nack_resend_delay];
+    let dynamic = [c.min_delay, c.max_delay, c.target_recovery];
     let sizes = [c.max_entries as u64, c.max_gaps as u64];
     let words = [c.clock_rate, c.max_nack_attempts, c.mode, c.has_rtx, c.ssrc, c.rtx_ssrc];
     let payload_types = [u64::from(c.pt), u64::from(c.rtx_pt)];
-    [&durations[..], &sizes, &words.map(u64::from), &payload_types].concat()
+    [&durations[..], &dynamic, &sizes, &words.map(u64::from), &payload_types].concat()
 }
 
 #[test]
@@ -192,15 +203,14 @@ fn the_opening_carries_every_setting() {
         initial_nack_delay: Duration::from_nanos(15),
         default_nack_resend_delay: Duration::from_nanos(16),
         max_nack_attempts: 17,
-        nack_window: Duration::from_nanos(18),
         payload_type: 19,
         ssrc: 20,
         rtx: Some(Rtx { payload_type: 21, ssrc: 22 }),
     };
     let session = Queue::open(&config).unwrap().session;
-    let mut expected = vec![12, 15, 16, 18, 13, 1014, 11, 17, 0, 1, 20, 22, 19, 21];
-    expected.resize(38, 0);
-    expected[32] = 11f64.to_bits();
+    let mut expected = vec![12, 15, 16, 0, 0, 0, 13, 1014, 11, 17, 0, 1, 20, 22, 19, 21];
+    expected.resize(40, 0);
+    expected[34] = 11f64.to_bits();
     assert_eq!(words(&session), expected);
 }
 
@@ -209,7 +219,7 @@ fn a_used_session_has_each_word_in_its_place() {
     let queue = used();
     let (jitter, loss) = (queue.session.jitter_bits, queue.session.loss_bits);
     assert!(f64::from_bits(jitter) > 0.0 && f32::from_bits(loss) > 0.0);
-    let settings = [100 * MS, 5 * MS, 20 * MS, 200 * MS, 3, 999, 8000, 3, 1, 1];
+    let settings = [100 * MS, 5 * MS, 20 * MS, 3, 999, 8000, 3, 1, 1];
     let senders = [SSRC.into(), RTX.ssrc.into(), 5, 97];
     let (number, timestamp) = (queue.session.last_number & !0xffff, queue.session.last_timestamp & !0xffff_ffff);
     let received = [126 * MS, 1, 121 * MS, timestamp + 800, number + 15, 1, number + 12];
@@ -232,7 +242,7 @@ fn resize<T: Clone + Default>(slice: &mut Box<[T]>, length: usize) {
 fn flags_that_are_not_flags_are_refused_at_the_opening() {
     let Queue { mut storage, .. } = used();
     let before = storage.clone();
-    for damage in [|c: &mut ffi::Config| c.mode = 2, |c: &mut ffi::Config| c.has_rtx = 3] {
+    for damage in [|c: &mut ffi::Config| c.mode = 3, |c: &mut ffi::Config| c.has_rtx = 3] {
         let mut words = config().words();
         damage(&mut words);
         assert_eq!(storage.open(words).refusal, 1);
@@ -245,18 +255,76 @@ fn flags_that_are_not_flags_are_refused_at_the_opening() {
 fn a_short_output_is_refused() {
     let mut lent = lent();
     let now = lent.session.clock;
-    assert_eq!((refusal(&lent, now, Lent::poll), refusal(&lent, now, Lent::poll_nack)), (0, 0));
+    let writing = [Lent::poll, Lent::poll_nack, Lent::nack_wire];
+    assert_eq!(writing.map(|call| refusal(&lent, now, call)), [0; 3]);
     lent.payload.pop();
     lent.numbers.pop();
-    assert_eq!((refusal(&lent, now, Lent::poll), refusal(&lent, now, Lent::poll_nack)), (15, 15));
+    lent.wire.pop();
+    assert_eq!(writing.map(|call| refusal(&lent, now, call)), [15; 3]);
+    // before 8, after 16
+    assert_eq!(writing.map(|call| refusal(&lent, now - 1, call)), [15; 3]);
+    lent.session.received = END + 1;
+    assert_eq!(writing.map(|call| refusal(&lent, now, call)), [16; 3]);
+}
+
+/// Lists set by hand: how long the list of numbers is, how many bytes are read, and the answer.
+#[test]
+fn a_short_list_of_numbers_is_refused_ahead_of_bytes_that_are_no_entries() {
+    let bytes = [0xff, 0xff, 0xff, 0xff, 0, 32, 0x80, 0x01, 9, 9, 9];
+    for (list, length, refused, expected) in [
+        (0, 0, 0, &[][..]),
+        (0, 1, 17, &[]),
+        (0, 3, 17, &[]),
+        (0, 4, 15, &[]),
+        (16, 4, 15, &[]),
+        (17, 4, 0, &[65_535, 0, 1, 2, 3, 4, 5, 6, 7, 8, 9, 10, 11, 12, 13, 14, 15]),
+        (16, 5, 15, &[]),
+        (17, 5, 17, &[]),
+        (17, 7, 17, &[]),
+        (33, 8, 15, &[]),
+        (34, 8, 0, &[65_535, 0, 1, 2, 3, 4, 5, 6, 7, 8, 9, 10, 11, 12, 13, 14, 15, 32, 33, 48]),
+        (33, 11, 15, &[]),
+        (34, 11, 17, &[]),
+        (40, 8, 0, &[65_535, 0, 1, 2, 3, 4, 5, 6, 7, 8, 9, 10, 11, 12, 13, 14, 15, 32, 33, 48]),
+    ] {
+        let mut numbers = vec![0xaaaa; list];
+        // SAFETY: two live slices of the lengths passed, apart from each other.
+        let read = unsafe { ffi::bizhgemu_read_nacks(bytes.as_ptr(), length, numbers.as_mut_ptr(), list) };
+        assert_eq!((read.refusal, read.numbers), (refused, expected.len()), "{list} {length}");
+        let (written, kept) = numbers.split_at(read.numbers);
+        assert_eq!(written, expected, "{list} {length}");
+        assert!(kept.iter().all(|number| *number == 0xaaaa));
+    }
+}
+
+/// The call on the wire leaves what `poll_nack` leaves, and what it wrote reads back as what `poll_nack` wrote.
+#[test]
+fn nacks_on_the_wire_are_those_of_poll_nack() {
+    // 14 NACKed at 126 ms is due again after 2 + 1.5 · 1 ms; 20 to 39 and 45 came to be missing at 126 ms
+    let mut lent = lent();
+    let (number, timestamp) = (lent.session.last_number, lent.session.last_timestamp);
+    for above in [1, 2, 3, 4, 25, 26, 27, 28, 29, 31] {
+        assert_eq!(lent.push(126 * MS, number + above, timestamp + above, &[]), 0);
+    }
+    for now in [126, 129, 130, 131, 135, 140, 200].map(|ms| ms * MS) {
+        let (mut plain, mut wire) = (lent.clone(), lent.clone());
+        assert_eq!((plain.poll_nack(now), wire.nack_wire(now)), (0, 0));
+        assert_eq!((plain.session, &plain.storage), (wire.session, &wire.storage), "at {now}");
+        let count = plain.numbers.iter().position(|number| *number == 0xaaaa).unwrap();
+        let bytes = wire.wire.chunks(4).position(|entry| entry == [0xaa; 4]).unwrap() * 4;
+        assert_eq!(crate::read_nacks(&wire.wire[..bytes]).unwrap(), plain.numbers[..count], "at {now}");
+        assert!(wire.wire[bytes..].iter().all(|byte| *byte == 0xaa));
+    }
 }
 
 #[test]
 fn output_after_the_answer_keeps_its_bytes() {
     let mut lent = lent();
-    assert_eq!((lent.poll_nack(130 * MS), lent.poll(300 * MS)), (0, 0));
-    assert_eq!((lent.numbers[0], lent.payload[0]), (14, 2));
+    let mut other = lent.clone();
+    assert_eq!((lent.poll_nack(130 * MS), lent.poll(300 * MS), other.nack_wire(130 * MS)), (0, 0, 0));
+    assert_eq!((lent.numbers[0], lent.payload[0], &other.wire[..4]), (14, 2, &[0, 14, 0, 0][..]));
     assert!(lent.numbers[1..].iter().all(|number| *number == 0xaaaa));
+    assert!(other.wire[4..].iter().all(|byte| *byte == 0xaa));
     assert!(lent.payload[1..].iter().all(|byte| *byte == 0xaa));
 }
 
@@ -281,7 +349,7 @@ fn unused_places_are_cleared() {
     payloads[321..].fill(0xff);
     gaps[4..].fill(u64::MAX);
     remembered[2..].fill(u64::MAX);
-    for call in &CALLS[..8] {
+    for call in &CALLS[..9] {
         let (mut clean, mut marked) = (clean.clone(), marked.clone());
         let now = clean.session.clock;
         assert_eq!((call(&mut clean, now), call(&mut marked, now)), (0, 0));
@@ -297,14 +365,14 @@ fn an_instant_outside_is_refused() {
     let mut lent = lent();
     let clock = lent.session.clock;
     for now in [clock, END] {
-        assert_eq!(refusals(&lent, now), [0; 9]);
+        assert_eq!(refusals(&lent, now), [0; 10]);
     }
     for now in [clock - 1, END + 1, u64::MAX] {
-        assert_eq!(refusals(&lent, now), [8, 8, 8, 8, 8, 8, 0, 0, 0]);
+        assert_eq!(refusals(&lent, now), [8, 8, 8, 8, 8, 8, 8, 0, 0, 0]);
     }
     // a clock past the end is not damage, but no instant is left
     lent.session.clock = END + 1;
-    assert_eq!(refusals(&lent, END + 1), [8, 8, 8, 8, 8, 8, 0, 0, 0]);
+    assert_eq!(refusals(&lent, END + 1), [8, 8, 8, 8, 8, 8, 8, 0, 0, 0]);
 }
 
 #[test]
@@ -316,6 +384,7 @@ fn an_instant_past_the_last_is_refused() {
         assert_eq!(queue.push_rtx(late, &repair(14, 640, &[])), Err(Refusal::Clock));
         assert_eq!(queue.poll(late), Err(Refusal::Clock));
         assert_eq!(queue.poll_nack(late), Err(Refusal::Clock));
+        assert_eq!(queue.nack_wire(late), Err(Refusal::Clock));
         assert_eq!(queue.timeout_receive(late), Err(Refusal::Clock));
         assert_eq!(queue.timeout_nack(late), Err(Refusal::Clock));
     }
@@ -334,9 +403,9 @@ fn each_is_damage(lines: &[(&str, Set)], figures: u64) {
         set(&mut damaged, 1);
         // 14 may catch the packet and the repair where a count is at its end
         let [packet, repair, others @ ..] = refusals(&sound, sound.session.clock);
-        assert!([0, 14].contains(&packet) && [0, 14].contains(&repair) && others == [0; 7], "{what}: sound");
+        assert!([0, 14].contains(&packet) && [0, 14].contains(&repair) && others == [0; 8], "{what}: sound");
         let [calls @ .., told] = refusals(&damaged, damaged.session.clock);
-        assert_eq!((calls, told), ([16; 8], figures), "{what}: damaged");
+        assert_eq!((calls, told), ([16; 9], figures), "{what}: damaged");
     }
 }
 
@@ -383,6 +452,7 @@ fn set_most_gaps(l: &mut Lent, most: u64) {
     l.session.config.max_gaps = most as usize;
     resize(&mut l.storage.gaps, 4 * most as usize);
     l.numbers.resize(most as usize, 0xaaaa);
+    l.wire.resize(ENTRY_BYTES * most as usize, 0xaa);
 }
 
 /// Every place in use: G gaps, 2 · D entries above them, 1,024 remembered.
@@ -408,7 +478,7 @@ fn set_gaps(l: &mut Lent, first: u64, second: u64) {
 #[rustfmt::skip]
 fn damaged_words_are_refused() {
     each_is_damage(&[
-        ("a flag: mode", |l, past| l.session.config.mode = 1 + past as u32),
+        ("a flag: mode", |l, past| l.session.config.mode = 2 + past as u32),
         ("a flag: RTX", |l, past| l.session.config.has_rtx = 1 + past as u32),
         ("a flag: last packet", |l, past| l.session.has_last = 1 + past),
         ("a flag: last returned", |l, past| l.session.has_returned = 1 << (63 * past)),
@@ -422,9 +492,12 @@ fn damaged_words_are_refused() {
         ("a setting: delay", |l, past| l.session.config.delay = MINUTE + past),
         ("a setting: initial NACK delay", |l, past| l.session.config.initial_nack_delay = MINUTE + past),
         ("a setting: resend delay", |l, past| l.session.config.default_nack_resend_delay = MINUTE + past),
-        ("a setting: NACK window", |l, past| l.session.config.nack_window = MINUTE + past),
         ("a setting: no attempt", |l, past| l.session.config.max_nack_attempts = 1 - past as u32),
         ("a setting: attempts", |l, past| l.session.config.max_nack_attempts = 255 + past as u32),
+        ("a dynamic setting: attempts", |l, past| { l.session.config.mode = 2; l.session.config.max_nack_attempts = 4 + past as u32 }),
+        ("a dynamic setting: longest delay", |l, past| { l.session.config.mode = 2; l.session.config.max_delay = MINUTE + past }),
+        ("a dynamic setting: shortest delay", |l, past| { l.session.config.mode = 2; l.session.config.min_delay = past }),
+        ("a dynamic setting: target", |l, past| { l.session.config.mode = 2; l.session.config.target_recovery = 9_999 + past }),
         ("a setting: payload type", |l, past| l.session.config.pt = 127 + past as u8),
         ("a setting: payload type of repairs", |l, past| l.session.config.rtx_pt = 127 + past as u8),
         // in passthrough: there entries and gaps may stand at or below the last returned
@@ -523,8 +596,10 @@ fn a_count_past_its_end_is_refused() {
         ("lost, sorted", |l, past| { l.poll(300 * MS); l.session.lost = END - 1 + past }, Lent::poll),
         ("lost, passthrough", |l, past| { try_all(l); l.session.lost = END - 1 + past }, Lent::poll),
         ("lost by poll_nack", |l, past| { try_all(l); l.session.lost = END - 1 + past }, Lent::poll_nack),
+        ("lost by nack_wire", |l, past| { try_all(l); l.session.lost = END - 1 + past }, Lent::nack_wire),
         // due 2 + 1.5 · 1 ms after 126 ms
         ("a NACK count", |l, past| l.storage.gaps[2] = (1 << 32) - 2 + past, |l, _| l.poll_nack(130 * MS)),
+        ("a NACK count on the wire", |l, past| l.storage.gaps[2] = (1 << 32) - 2 + past, |l, _| l.nack_wire(130 * MS)),
     ];
     for (what, set, call) in lines {
         for (past, expected) in [(0, 0), (1, 14)] {
@@ -553,5 +628,119 @@ fn a_count_at_its_end_that_is_not_raised_may_stand() {
         let mut lent = lent();
         set(&mut lent, 0);
         assert_eq!(refusal(&lent, lent.session.clock, *call), 0, "{what}");
+    }
+}
+
+// ---- a burst (02, point 4)
+
+/// What a burst of these datagrams is answered: refusal, answers written, and a list of so many places.
+fn burst(lent: &mut Lent, now: u64, parts: &[Vec<u8>], places: usize) -> (u64, usize, Vec<u8>) {
+    let buffer = parts.concat();
+    let ends: Vec<u64> = parts
+        .iter()
+        .scan(0, |end, part| {
+            *end += part.len() as u64;
+            Some(*end)
+        })
+        .collect();
+    burst_at(lent, now, &buffer, &ends, places)
+}
+
+fn burst_at(lent: &mut Lent, now: u64, buffer: &[u8], ends: &[u64], places: usize) -> (u64, usize, Vec<u8>) {
+    let mut answers = vec![0xaa; places];
+    let pushed = lend!(
+        bizhgemu_push_burst,
+        lent.session,
+        lent.storage,
+        now,
+        buffer.as_ptr(),
+        buffer.len(),
+        ends.as_ptr(),
+        ends.len(),
+        answers.as_mut_ptr(),
+        answers.len()
+    );
+    lent.session = pushed.session;
+    (pushed.refusal, pushed.answers, answers)
+}
+
+/// Numbers after the highest of `used`, one more of them, and two that are refused.
+fn mixed() -> Vec<Vec<u8>> {
+    let stranger = header(6, 16, 960, SSRC, &[5]);
+    vec![
+        vec![0x80; 11],
+        media(16, 960, &[5]),
+        stranger,
+        media(17, 1120, &[6; 9]),
+        media(16, 960, &[5]),
+        media(18, 1280, &[]),
+    ]
+}
+
+/// The words of a session that are used; its storage.
+fn same(a: &Lent, b: &Lent) -> bool {
+    words(&a.session) == words(&b.session) && a.storage == b.storage
+}
+
+#[test]
+fn a_burst_is_its_single_calls() {
+    let (mut whole, mut single) = (lent(), lent());
+    // garbage in unused places, which the first accepted datagram clears
+    for lent in [&mut whole, &mut single] {
+        lent.storage.gaps[4..].fill(u64::MAX);
+        lent.storage.payloads[321..].fill(0xff);
+    }
+    let now = whole.session.clock;
+    let told: Vec<u8> = mixed()
+        .iter()
+        .map(|datagram| {
+            let pushed = lend!(bizhgemu_push, single.session, single.storage, now, datagram.as_ptr(), datagram.len());
+            single.session = pushed.session;
+            if pushed.refusal != 0 { pushed.refusal as u8 } else { [0, 255][pushed.answer as usize] }
+        })
+        .collect();
+    assert_eq!(told, [2, 0, 6, 0, 255, 0]);
+    let (refusal, count, answers) = burst(&mut whole, now, &mixed(), told.len() + 2);
+    assert_eq!((refusal, count), (0, told.len()));
+    assert_eq!((&answers[..count], &answers[count..]), (&told[..], &[0xaa; 2][..]));
+    assert!(same(&whole, &single) && has_zeros(&whole.session, &whole.storage));
+}
+
+#[test]
+fn a_burst_that_is_refused_alters_nothing() {
+    let mut marked = lent();
+    marked.storage.gaps[4..].fill(u64::MAX);
+    let now = marked.session.clock;
+    let ok = media(16, 960, &[5]);
+    let bytes = ok.len() as u64;
+    for (buffer, ends, places, want) in [
+        // ends that fall, that pass the buffer; a list one place short
+        (&ok[..], &[bytes, bytes - 1][..], 2, (15, 0, vec![0xaa; 2])),
+        (&ok[..], &[bytes + 1][..], 1, (15, 0, vec![0xaa; 1])),
+        (&ok[..], &[u64::MAX][..], 1, (15, 0, vec![0xaa; 1])),
+        (&ok[..], &[bytes][..], 0, (15, 0, vec![])),
+        // no end; two equal ends, bytes after the last one
+        (&ok[..], &[][..], 1, (0, 0, vec![0xaa; 1])),
+        (&ok[..], &[0, 0][..], 3, (0, 2, vec![2, 2, 0xaa])),
+    ] {
+        let mut lent = marked.clone();
+        assert_eq!(burst_at(&mut lent, now, buffer, ends, places), want);
+        assert!(lent == marked);
+    }
+    // an instant before the clock's; then a damaged session, a setting and a flag that is none: each datagram's answer
+    let mut lent = marked.clone();
+    assert_eq!(burst(&mut lent, now - 1, &mixed(), 6), (0, 6, vec![8; 6]));
+    assert!(lent == marked);
+    let damages: [fn(&mut Lent); 3] =
+        [|l| l.session.gaps += 1, |l| l.session.config.clock_rate = 0, |l| l.session.has_rtt = 2];
+    for damage in damages {
+        let mut lent = marked.clone();
+        damage(&mut lent);
+        let damaged = lent.clone();
+        assert_eq!(burst(&mut lent, now, &mixed(), 6), (0, 6, vec![16; 6]));
+        assert!(lent == damaged);
+        // 15 comes first
+        assert_eq!(burst(&mut lent, now, &mixed(), 5), (15, 0, vec![0xaa; 5]));
+        assert!(lent == damaged);
     }
 }

@@ -12,6 +12,36 @@ pub enum Mode {
     Passthrough,
     /// In order, each [`Config::delay`] after it was due to arrive.
     SortedQueue,
+    /// In order, each after it was due to arrive by a delay that follows jitter, loss and round trip. [`Config::max_nack_attempts`] is
+    /// 1 to 4 here.
+    Dynamic(Dynamic),
+}
+
+/// Between what the delay of [`Mode::Dynamic`] moves. It is two and a half times the jitter or, once a round trip was measured and if that
+/// is more, twice the time of as many NACKs as recover the target at the present loss; and at least `min`, at most `max`.
+///
+/// ```
+/// use bizhgemu::{Config, Dynamic, Mode};
+///
+/// let mut config = Config::opus(111, 0x1234_5678);
+/// config.mode = Mode::Dynamic(Dynamic::default());
+/// assert!(bizhgemu::Queue::open(&config).is_ok());
+/// ```
+#[derive(Clone, Copy, Debug, PartialEq, Eq)]
+#[non_exhaustive]
+pub struct Dynamic {
+    /// The shortest delay, not above the longest. Default: 10 ms.
+    pub min: Duration,
+    /// The longest delay, at most 60 s. Default: 400 ms.
+    pub max: Duration,
+    /// Of ten thousand losses, how many the NACKs are to recover: 0 to 9,999. Default: 9,900, that is 0.99.
+    pub target_recovery: u64,
+}
+
+impl Default for Dynamic {
+    fn default() -> Dynamic {
+        Dynamic { min: Duration::from_millis(10), max: Duration::from_millis(400), target_recovery: 9_900 }
+    }
 }
 
 /// Where repairs come from (RFC 4588).
@@ -54,7 +84,7 @@ pub struct Config {
     /// Clock rate of the RTP timestamps, 1 to 1,000,000 Hz: that of the payload format, not of the sound (G.722 has 8,000).
     /// A wrong one is refused nowhere; packets then wait too long or not at all. Default: 8,000.
     pub clock_rate: u32,
-    /// In sorted mode: from when a packet was due, by its timestamp, to its hand-out; at most 60 s. Default: 100 ms.
+    /// Of [`Mode::SortedQueue`]: from when a packet was due, by its timestamp, to its hand-out; at most 60 s. Default: 100 ms.
     pub delay: Duration,
     /// Depth D: packets kept, 1 to 1,024. At least `delay` / packet time + 1, twice that with repairs. 16 is enough for 100 ms
     /// of 20 ms packets and costs less in every call. Default: 100.
@@ -65,10 +95,9 @@ pub struct Config {
     pub initial_nack_delay: Duration,
     /// From one NACK to the next while no round trip was measured, at most 60 s. Set it above the round trip. Default: 20 ms.
     pub default_nack_resend_delay: Duration,
-    /// NACKs after which [`Mode::Passthrough`] gives a number up, 1 to 255. Default: 3.
+    /// NACKs after which [`Mode::Passthrough`] gives a number up, 1 to 255; in [`Mode::Dynamic`] the most that the delay leaves time for,
+    /// 1 to 4. Default: 3.
     pub max_nack_attempts: u32,
-    /// At most 60 s. Kept as in the original queue, where it has no effect. Default: 200 ms.
-    pub nack_window: Duration,
     /// Payload type of media packets, 0 to 127. Default: 0 (PCMU).
     pub payload_type: u8,
     /// SSRC of media packets. Default: 0.
@@ -88,7 +117,6 @@ impl Default for Config {
             initial_nack_delay: Duration::from_millis(5),
             default_nack_resend_delay: Duration::from_millis(20),
             max_nack_attempts: 3,
-            nack_window: Duration::from_millis(200),
             payload_type: 0,
             ssrc: 0,
             rtx: None,
@@ -162,22 +190,47 @@ fn bits_between(one: Rtx, other: Rtx) -> u32 {
     ((one.payload_type ^ other.payload_type) & 0x7f).count_ones() + (one.ssrc ^ other.ssrc).count_ones()
 }
 
+impl Mode {
+    /// Its number, and what a dynamic delay has: zeros in another mode, where nothing looks at them.
+    fn words(self) -> (u32, Dynamic) {
+        let none = Dynamic { min: Duration::ZERO, max: Duration::ZERO, target_recovery: 0 };
+        match self {
+            Mode::Passthrough => (0, none),
+            Mode::SortedQueue => (1, none),
+            Mode::Dynamic(dynamic) => (2, dynamic),
+        }
+    }
+
+    fn of_words(words: &ffi::Config) -> Mode {
+        let nanos = Duration::from_nanos;
+        match words.mode {
+            0 => Mode::Passthrough,
+            1 => Mode::SortedQueue,
+            _ => Mode::Dynamic(Dynamic {
+                min: nanos(words.min_delay),
+                max: nanos(words.max_delay),
+                target_recovery: words.target_recovery,
+            }),
+        }
+    }
+}
+
 impl Config {
     pub(crate) fn words(&self) -> ffi::Config {
         let rtx = self.rtx.unwrap_or(Rtx { payload_type: 0, ssrc: 0 });
+        let (mode, dynamic) = self.mode.words();
         ffi::Config {
             delay: nanoseconds(self.delay),
             initial_nack_delay: nanoseconds(self.initial_nack_delay),
             default_nack_resend_delay: nanoseconds(self.default_nack_resend_delay),
-            nack_window: nanoseconds(self.nack_window),
+            min_delay: nanoseconds(dynamic.min),
+            max_delay: nanoseconds(dynamic.max),
+            target_recovery: dynamic.target_recovery,
             max_entries: self.max_entries,
             max_gaps: self.max_gaps,
             clock_rate: self.clock_rate,
             max_nack_attempts: self.max_nack_attempts,
-            mode: match self.mode {
-                Mode::Passthrough => 0,
-                Mode::SortedQueue => 1,
-            },
+            mode,
             has_rtx: u32::from(self.rtx.is_some()),
             ssrc: self.ssrc,
             rtx_ssrc: rtx.ssrc,
@@ -190,7 +243,7 @@ impl Config {
     pub(crate) fn of_words(words: &ffi::Config) -> Config {
         let nanos = Duration::from_nanos;
         Config {
-            mode: if words.mode == 0 { Mode::Passthrough } else { Mode::SortedQueue },
+            mode: Mode::of_words(words),
             clock_rate: words.clock_rate,
             delay: nanos(words.delay),
             max_entries: words.max_entries,
@@ -198,7 +251,6 @@ impl Config {
             initial_nack_delay: nanos(words.initial_nack_delay),
             default_nack_resend_delay: nanos(words.default_nack_resend_delay),
             max_nack_attempts: words.max_nack_attempts,
-            nack_window: nanos(words.nack_window),
             payload_type: words.pt,
             ssrc: words.ssrc,
             rtx: told(words.has_rtx.into(), Rtx { payload_type: words.rtx_pt, ssrc: words.rtx_ssrc }),

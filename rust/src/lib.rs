@@ -57,9 +57,11 @@ mod config;
 mod ffi;
 mod header;
 mod inspect;
+mod line;
 mod queue;
 mod receiver;
 mod refusal;
+pub mod rtcp;
 mod time;
 mod version;
 
@@ -67,10 +69,11 @@ mod version;
 mod boundary_tests;
 
 pub use answers::{Figures, Media, Packet, Repair, RtxStats};
-pub use config::{Config, Mode, Rtx};
+pub use config::{Config, Dynamic, Mode, Rtx};
 pub use header::Header;
 pub use inspect::{Gap, LastReceived, Remembered, RoundTrip, Waiting};
-pub use queue::Queue;
+pub use line::{LINE_BYTES, LineError};
+pub use queue::{Queue, read_nacks, read_nacks_into};
 pub use receiver::{Event, Heard, Receiver, Rules, Sender, Taken, Tally, Why};
 pub use refusal::Refusal;
 #[cfg(feature = "std")]

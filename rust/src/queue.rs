@@ -6,8 +6,14 @@ use crate::time::nanoseconds;
 use crate::version;
 use alloc::boxed::Box;
 use alloc::vec;
+use alloc::vec::Vec;
 use core::fmt;
 use core::time::Duration;
+
+/// The bytes of a pair on the wire: `nack_wire` is lent so many for each gap that may be open.
+pub(crate) const ENTRY_BYTES: usize = 4;
+/// The most numbers that a pair names.
+const NUMBERS: usize = 17;
 
 /// The longest payload: what `poll` is lent to write into.
 pub(crate) const LONGEST_PAYLOAD: usize = 320;
@@ -59,7 +65,7 @@ macro_rules! lend {
     ($function:ident, $session:expr, $storage:expr $(, $argument:expr)*) => {{
         let Storage { entries, payloads, gaps, remembered } = &mut $storage;
         // SAFETY: four live slices of the lengths passed, each of another allocation; the arguments after them are numbers, or
-        // pointer and length of one live slice apart from the four. The function asks nothing else of any value.
+        // pointers and lengths of live slices apart from the four and from each other. The function asks nothing else of any value.
         unsafe {
             ffi::$function(
                 $session,
@@ -82,7 +88,7 @@ pub(crate) use lend;
 /// The receive queue of one RTP stream. It owns its session and storage; it allocates when it is opened or cloned.
 ///
 /// Instants are durations since a start that you choose, not over 52 days back, from one [`Clock`](crate::Clock). `push`,
-/// `push_rtx`, `poll` and `poll_nack` advance the queue's clock where they are accepted; an instant before it is refused under
+/// `push_rtx`, `poll`, `poll_nack` and `nack_wire` advance the queue's clock where they are accepted; an instant before it is refused under
 /// 8, and so is one above [`LATEST`](crate::LATEST). The timeouts don't advance it.
 ///
 /// The refusals under "Errors" stand in the order in which they are checked; [`Refusal::Truncated`] is checked a second time, for
@@ -97,6 +103,7 @@ pub struct Queue {
     pub(crate) storage: Storage,
     payload: [u8; LONGEST_PAYLOAD],
     numbers: Box<[u16]>,
+    wire: Box<[u8]>,
 }
 
 impl Queue {
@@ -118,6 +125,7 @@ impl Queue {
             storage,
             payload: [0; LONGEST_PAYLOAD],
             numbers: vec![0; config.max_gaps].into(),
+            wire: vec![0; ENTRY_BYTES * config.max_gaps].into(),
         })
     }
 
@@ -159,6 +167,58 @@ impl Queue {
         Refusal::check(pushed.refusal)?;
         self.session = pushed.session;
         Ok(if pushed.answer == 0 { Media::Queued } else { Media::Dropped })
+    }
+
+    /// Takes media datagrams that came together, as single calls of [`push`](Queue::push) in that order at one instant, but looks
+    /// through session and storage once for all of them. `ends` says where each datagram ends in `buffer`: the first starts at byte
+    /// 0, each further one where the one before it ends, and bytes after the last end are ignored. One answer comes back for each; a
+    /// refused datagram stops none of the later ones.
+    ///
+    /// ```
+    /// use bizhgemu::{Config, Media, Queue, Refusal};
+    /// use std::time::Duration;
+    ///
+    /// let mut queue = Queue::open(&Config::pcmu(1))?;
+    /// let datagram = |number: u8| [0x80, 0, 0, number, 0, 0, 0, 0, 0, 0, 0, 1, 0x2a];
+    ///
+    /// // Number 10, eleven bytes that are no packet, number 11, and 10 once more.
+    /// let mut buffer = Vec::new();
+    /// let mut ends = Vec::new();
+    /// for part in [&datagram(10)[..], &[0x80; 11], &datagram(11), &datagram(10)] {
+    ///     buffer.extend_from_slice(part);
+    ///     ends.push(buffer.len() as u64);
+    /// }
+    /// let answers = queue.push_burst(Duration::ZERO, &buffer, &ends)?;
+    /// assert_eq!(answers, [Ok(Media::Queued), Err(Refusal::Truncated), Ok(Media::Queued), Ok(Media::Dropped)]);
+    /// # Ok::<(), bizhgemu::Refusal>(())
+    /// ```
+    ///
+    /// # Errors
+    ///
+    /// [`Refusal::Output`] (15) where an end is below the one before it or past the buffer: then nothing was pushed. Every other
+    /// refusal is one datagram's answer, also [`Refusal::Session`] (16) and [`Refusal::Clock`] (8).
+    pub fn push_burst(
+        &mut self,
+        now: Duration,
+        buffer: &[u8],
+        ends: &[u64],
+    ) -> Result<Vec<Result<Media, Refusal>>, Refusal> {
+        let mut answers = vec![0; ends.len()];
+        let pushed = lend!(
+            bizhgemu_push_burst,
+            self.session,
+            self.storage,
+            nanoseconds(now),
+            buffer.as_ptr(),
+            buffer.len(),
+            ends.as_ptr(),
+            ends.len(),
+            answers.as_mut_ptr(),
+            answers.len()
+        );
+        Refusal::check(pushed.refusal)?;
+        self.session = pushed.session;
+        Ok(answers.into_iter().map(media).collect())
     }
 
     /// Takes a repair: the RTX packet as it was sent (RFC 4588).
@@ -230,6 +290,54 @@ impl Queue {
         Refusal::check(polled.refusal)?;
         self.session = polled.session;
         Ok(&self.numbers[..polled.count])
+    }
+
+    /// The same numbers as [`poll_nack`](Queue::poll_nack) would give, as they go over the wire: entries of a generic NACK (RFC 4585,
+    /// section 6.2.1), four bytes each, a number and a mask of the sixteen that follow it, as few of them as can name these numbers;
+    /// empty where none is due. [`Reporter`](crate::rtcp::Reporter) makes RTCP packets of them.
+    ///
+    /// It does to the queue what `poll_nack` does, so call the one or the other.
+    ///
+    /// ```
+    /// use bizhgemu::{Config, Queue, read_nacks, rtcp::Reporter};
+    /// use std::time::Duration;
+    ///
+    /// let mut queue = Queue::open(&Config::pcmu(42))?;
+    /// // 65,534 comes, then 2: 65,535, 0 and 1 are missing.
+    /// queue.push(Duration::ZERO, &[0x80, 0, 0xff, 0xfe, 0, 0, 0, 0, 0, 0, 0, 42])?;
+    /// queue.push(Duration::from_millis(80), &[0x80, 0, 0, 2, 0, 0, 2, 128, 0, 0, 0, 42])?;
+    ///
+    /// let entries = queue.nack_wire(Duration::from_millis(85))?;
+    /// assert_eq!(entries, [0xff, 0xff, 0, 0b11]);
+    /// assert_eq!(read_nacks(entries)?, [65_535, 0, 1]);
+    /// for datagram in Reporter::compound(7, "box@example").generic_nacks(42, entries) {
+    ///     // send it to the sender's RTCP port
+    /// }
+    /// # Ok::<(), bizhgemu::Refusal>(())
+    /// ```
+    ///
+    /// # Errors
+    ///
+    /// [`Refusal::Clock`] (8), [`Refusal::Count`] (14).
+    pub fn nack_wire(&mut self, now: Duration) -> Result<&[u8], Refusal> {
+        let mut wire = core::mem::take(&mut self.wire);
+        let bytes = self.nack_wire_into(now, &mut wire);
+        self.wire = wire;
+        Ok(&self.wire[..bytes?])
+    }
+
+    /// The same into bytes of your own, 4 for each of [`Config::max_gaps`] at least; answers how many were written. Those after them are
+    /// kept.
+    ///
+    /// # Errors
+    ///
+    /// [`Refusal::Output`] (15), [`Refusal::Clock`] (8), [`Refusal::Count`] (14).
+    pub fn nack_wire_into(&mut self, now: Duration, out: &mut [u8]) -> Result<usize, Refusal> {
+        let polled =
+            lend!(bizhgemu_nack_wire, self.session, self.storage, nanoseconds(now), out.as_mut_ptr(), out.len());
+        Refusal::check(polled.refusal)?;
+        self.session = polled.session;
+        Ok(polled.bytes)
     }
 
     /// The time from `now` until [`poll`](Queue::poll) should be called; none while nothing waits. It may hand out nothing then.
@@ -315,6 +423,38 @@ impl Queue {
     }
 }
 
+/// The 16-bit numbers that the entries of a generic NACK name (RFC 4585, section 6.2.1), entry by entry: its first number, then those of
+/// its mask from the lowest bit. What [`Queue::nack_wire`] wrote comes back in order, each number once; of entries that others wrote a
+/// number may come twice. It is the sender's side: who is asked sends these again.
+///
+/// ```
+/// assert_eq!(bizhgemu::read_nacks(&[0xff, 0xff, 0, 0b11, 0, 32, 0x80, 0])?, [65_535, 0, 1, 32, 48]);
+/// assert_eq!(bizhgemu::read_nacks(&[0xff, 0xff, 0]), Err(bizhgemu::Refusal::NackEntries));
+/// # Ok::<(), bizhgemu::Refusal>(())
+/// ```
+///
+/// # Errors
+///
+/// [`Refusal::NackEntries`] (17) where the bytes are not a multiple of 4.
+pub fn read_nacks(entries: &[u8]) -> Result<Vec<u16>, Refusal> {
+    let mut numbers = vec![0; NUMBERS * (entries.len() / ENTRY_BYTES)];
+    let many = read_nacks_into(entries, &mut numbers)?;
+    numbers.truncate(many);
+    Ok(numbers)
+}
+
+/// The same into a list of your own, of 17 numbers for each four bytes at least; answers how many were written. Those after them are kept.
+///
+/// # Errors
+///
+/// [`Refusal::Output`] (15), [`Refusal::NackEntries`] (17).
+pub fn read_nacks_into(entries: &[u8], out: &mut [u16]) -> Result<usize, Refusal> {
+    // SAFETY: two live slices of the lengths passed, which do not overlap; the function asks nothing else.
+    let read = unsafe { ffi::bizhgemu_read_nacks(entries.as_ptr(), entries.len(), out.as_mut_ptr(), out.len()) };
+    Refusal::check(read.refusal)?;
+    Ok(read.numbers)
+}
+
 impl fmt::Debug for Queue {
     fn fmt(&self, f: &mut fmt::Formatter<'_>) -> fmt::Result {
         f.debug_struct("Queue").field("session", &self.session).finish_non_exhaustive()
@@ -329,4 +469,13 @@ fn timeout(answer: ffi::Timeout) -> Result<Option<Duration>, Refusal> {
 /// A value beside its flag.
 pub(crate) fn told<T>(flag: u64, value: T) -> Option<T> {
     (flag != 0).then_some(value)
+}
+
+/// A datagram's answer number in a burst: 0 queued, 255 dropped, else the refusal.
+fn media(number: u8) -> Result<Media, Refusal> {
+    match number {
+        0 => Ok(Media::Queued),
+        255 => Ok(Media::Dropped),
+        refusal => Refusal::check(refusal.into()).map(|()| Media::Queued),
+    }
 }

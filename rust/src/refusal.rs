@@ -35,15 +35,22 @@ pub enum Refusal {
     EntriesFull,
     /// 14: a number, timestamp or counter would pass 2^52 - 1, or a NACK count 2^32 - 1.
     Count,
-    /// 15: the lent output is too short. [`Queue`](crate::Queue) never lends one that is.
+    /// 15: the lent output is too short. [`Queue`](crate::Queue) never lends one that is, but for yours in
+    /// [`nack_wire_into`](crate::Queue::nack_wire_into).
     Output,
     /// 16: session or storage is damaged. [`Queue`](crate::Queue) owns both, so memory was overwritten from elsewhere, or floats
     /// were not rounded to nearest.
     Session,
+    /// 17: the entries of a NACK are not a multiple of 4 bytes.
+    NackEntries,
+    /// 20: a settings line has the wrong length or end, or a field that is no number; see [`Config::from_line`](crate::Config::from_line).
+    SettingsLine = 20,
+    /// 21: a settings line does not begin with a version that is known.
+    LineVersion,
 }
 
 /// Every refusal with what it means and what to do about it.
-const TABLE: [(Refusal, &str, &str); 16] = [
+const TABLE: [(Refusal, &str, &str); 19] = [
     (
         Refusal::Settings,
         "a setting is out of its range",
@@ -114,33 +121,48 @@ const TABLE: [(Refusal, &str, &str); 16] = [
     (
         Refusal::Output,
         "the lent output is too short",
-        "lend `poll` at least 320 bytes and `poll_nack` at least `max_gaps` numbers",
+        "lend `poll` at least 320 bytes, `poll_nack` `max_gaps` numbers, `nack_wire` 4 bytes for each of them, `read_nacks` 17 numbers for \
+         each four bytes",
     ),
     (
         Refusal::Session,
         "session or storage is damaged, or not that of these settings",
         "open a new session; memory was overwritten, storage of another session was lent, or floats were not rounded to nearest",
     ),
+    (
+        Refusal::NackEntries,
+        "the entries of a NACK are not a multiple of 4 bytes",
+        "drop the packet; it was cut, or is no generic NACK (RFC 4585, section 6.2.1)",
+    ),
+    (
+        Refusal::SettingsLine,
+        "the settings line has the wrong length, no line feed at its end, or a field that is not a number after blanks",
+        "correct the line, or have it written anew; each field is twelve columns wide, with no zero before another digit",
+    ),
+    (
+        Refusal::LineVersion,
+        "the settings line does not begin with eleven blanks and version 1 or 2",
+        "take the file of this program's version; nothing else of the line was looked at",
+    ),
 ];
 
 impl Refusal {
     /// The highest number.
-    pub(crate) const HIGHEST: usize = TABLE.len();
+    pub(crate) const HIGHEST: usize = Refusal::LineVersion as usize;
 
     /// All of them, by number.
     pub fn all() -> impl ExactSizeIterator<Item = Refusal> {
         TABLE.iter().map(|(refusal, ..)| *refusal)
     }
 
-    /// The number of the refusal: 1 to 16 today.
+    /// The number of the refusal: 1 to 17, 20 and 21 today.
     pub fn number(self) -> u8 {
         self as u8
     }
 
     /// The refusal of a number; none for 0, which is no refusal, and for a number that is none.
     pub fn from_number(number: u64) -> Option<Refusal> {
-        let place = usize::try_from(number.checked_sub(1)?).ok()?;
-        TABLE.get(place).map(|(refusal, ..)| *refusal)
+        Refusal::all().find(|refusal| u64::from(refusal.number()) == number)
     }
 
     /// What it means.
@@ -154,7 +176,7 @@ impl Refusal {
     }
 
     fn row(self) -> &'static (Refusal, &'static str, &'static str) {
-        &TABLE[usize::from(self.number()) - 1]
+        TABLE.iter().find(|row| row.0 == self).expect("each has its row")
     }
 
     /// What an exported function answered: nothing, or the refusal.
@@ -184,20 +206,21 @@ mod tests {
 
     #[test]
     fn numbers_and_table_agree() {
-        for (place, refusal) in Refusal::all().enumerate() {
-            assert_eq!(usize::from(refusal.number()), place + 1);
+        for (refusal, number) in Refusal::all().zip((1..=16).chain(20..)) {
+            assert_eq!(refusal.number(), number);
             assert_eq!(Refusal::from_number(u64::from(refusal.number())), Some(refusal));
         }
         assert_eq!(Refusal::from_number(0), None);
-        assert_eq!(Refusal::from_number(17), None);
+        assert_eq!(Refusal::from_number(18), None);
+        assert_eq!(Refusal::from_number(22), None);
         assert_eq!(Refusal::from_number(u64::MAX), None);
     }
 
     #[test]
     fn each_says_its_number_and_has_a_meaning_of_its_own() {
         let meanings: BTreeSet<_> = Refusal::all().map(Refusal::meaning).collect();
-        assert_eq!(meanings.len(), 16);
-        for (refusal, number) in Refusal::all().zip(1..) {
+        assert_eq!(meanings.len(), 19);
+        for (refusal, number) in Refusal::all().zip((1..=17).chain(20..)) {
             let text = refusal.to_string();
             let words = text.strip_prefix(&format!("refused under {number}: ")).expect("the number stands first");
             let remedy = words.strip_prefix(refusal.meaning()).expect("then the meaning");

@@ -1,6 +1,6 @@
 //! The public interface.
 
-use bizhgemu::{Clock, Config, Header, Media, Mode, Queue, Refusal, Repair, Rtx};
+use bizhgemu::{Clock, Config, Dynamic, Header, Media, Mode, Queue, Refusal, Repair, Rtx};
 use std::time::{Duration, Instant};
 
 fn datagram(pt: u8, number: u16, timestamp: u32, ssrc: u32, payload: &[u8]) -> Vec<u8> {
@@ -90,6 +90,25 @@ fn a_loss_is_nacked_and_repaired() -> Result<(), Refusal> {
     Ok(())
 }
 
+/// The shortest delay while nothing asks for more; then twice the time of one NACK, which is what a loss of 0.01 takes for 0.99.
+#[test]
+fn a_dynamic_delay_follows_the_round_trip() -> Result<(), Refusal> {
+    let mut config = Config::pcmu(1);
+    (config.mode, config.rtx) = (Mode::Dynamic(Dynamic::default()), Some(Rtx::new(97, 9)));
+    let mut queue = Queue::open(&config)?;
+    queue.push(ms(0), &datagram(0, 10, 0, 1, &[10]))?;
+    assert_eq!(queue.timeout_receive(ms(0))?, Some(ms(10)));
+    assert_eq!(queue.poll(ms(10))?.expect("due").delay, ms(10));
+    queue.push(ms(40), &datagram(0, 12, 320, 1, &[12]))?;
+    assert_eq!(queue.poll_nack(ms(45))?, [11]);
+    assert_eq!(queue.push_rtx(ms(55), &datagram(97, 4, 160, 9, &[0, 11, 11]))?, Repair::Recovered);
+    // a round trip of 10 ms: 10 + 1.5 * 5, twice
+    assert_eq!(queue.timeout_receive(ms(55))?, Some(ms(0)));
+    queue.push(ms(60), &datagram(0, 13, 480, 1, &[13]))?;
+    assert_eq!(queue.poll(ms(75))?.expect("due").delay, ms(35));
+    Ok(())
+}
+
 #[test]
 fn jitter_is_told_and_the_smaller_timeout() -> Result<(), Refusal> {
     let mut config = Config::pcmu(1);
@@ -115,9 +134,15 @@ fn a_clock_counts_from_its_start() {
     assert!(clock.now() >= clock.at(after));
 }
 
+fn dynamic(min: u64, max: u64, target_recovery: u64) -> Mode {
+    let mut dynamic = Dynamic::default();
+    (dynamic.min, dynamic.max, dynamic.target_recovery) = (ms(min), ms(max), target_recovery);
+    Mode::Dynamic(dynamic)
+}
+
 #[test]
 fn settings_out_of_range_are_refused() {
-    let faults: [fn(&mut Config); 14] = [
+    let faults: [fn(&mut Config); 17] = [
         |config| config.clock_rate = 0,
         |config| config.clock_rate = 1_000_001,
         |config| config.max_entries = 0,
@@ -127,9 +152,12 @@ fn settings_out_of_range_are_refused() {
         |config| config.delay = Duration::MAX,
         |config| config.initial_nack_delay = ms(60_001),
         |config| config.default_nack_resend_delay = ms(60_001),
-        |config| config.nack_window = ms(60_001),
         |config| config.max_nack_attempts = 0,
         |config| config.max_nack_attempts = 256,
+        |config| config.mode = dynamic(20, 60_001, 0),
+        |config| config.mode = dynamic(21, 20, 0),
+        |config| config.mode = dynamic(20, 21, 10_000),
+        |config| (config.mode, config.max_nack_attempts) = (dynamic(20, 21, 9_999), 5),
         |config| config.payload_type = 128,
         |config| config.rtx = Some(Rtx::new(128, 0)),
     ];
@@ -180,13 +208,15 @@ fn other() -> Config {
     let mut config = Config::opus(111, 0xa1b2_c3d4);
     (config.mode, config.delay, config.max_entries, config.max_gaps) = (Mode::Passthrough, ms(61), 7, 1001);
     (config.initial_nack_delay, config.default_nack_resend_delay) = (ms(6), ms(21));
-    (config.max_nack_attempts, config.nack_window, config.rtx) = (4, ms(201), Some(Rtx::new(112, 5)));
+    (config.max_nack_attempts, config.rtx) = (4, Some(Rtx::new(112, 5)));
     config
 }
 
 #[test]
 fn a_queue_tells_its_settings() -> Result<(), Refusal> {
-    for config in [Config::pcmu(3), other()] {
+    let mut satellite = other();
+    satellite.mode = dynamic(30, 700, 9_990);
+    for config in [Config::pcmu(3), other(), satellite] {
         assert_eq!(Queue::open(&config)?.config(), config);
     }
     Ok(())

@@ -2,6 +2,7 @@
 
 #include "bizhgemu.h"
 
+#include <stddef.h>
 #include <stdio.h>
 #include <string.h>
 
@@ -15,6 +16,7 @@ static uint64_t gaps[BIZHGEMU_GAPS(G)];
 static uint64_t remembered[BIZHGEMU_REMEMBERED];
 static uint8_t out[BIZHGEMU_LONGEST_PAYLOAD];
 static uint16_t numbers[G];
+static uint8_t wire[BIZHGEMU_NACK_BYTES(G)];
 static struct bizhgemu_queue q;
 static int checks, failures;
 
@@ -36,7 +38,6 @@ static struct bizhgemu_config settings(void)
 	c.delay = 90 * MS;
 	c.initial_nack_delay = 7 * MS;
 	c.default_nack_resend_delay = 33 * MS;
-	c.nack_window = 44 * MS;
 	c.max_entries = D;
 	c.max_gaps = G;
 	c.clock_rate = 16000;
@@ -117,6 +118,46 @@ static void lengths(void)
 	IS(bizhgemu_lengths(1, 998).refusal, BIZHGEMU_REFUSED_SETTINGS);
 }
 
+/* The settings line: its fields in their order, what is written behind it, and a line of each refusal. */
+static void settings_line(void)
+{
+	const char fields[] = "           2           2       11000          12        1013           0          15          16           4"
+		"          18          19          20\n";
+	uint8_t line[BIZHGEMU_SETTINGS_LINE + 1];
+	line[BIZHGEMU_SETTINGS_LINE] = 7;
+	struct bizhgemu_settings s;
+	memset(&s, 0, sizeof s);
+	s.mode = 2;
+	s.clock_rate = 11000;
+	s.max_entries = 12;
+	s.max_gaps = 1013;
+	s.initial_nack_delay = 15;
+	s.default_nack_resend_delay = 16;
+	s.max_nack_attempts = 4;
+	s.min_delay = 18;
+	s.max_delay = 19;
+	s.target_recovery = 20;
+	const struct bizhgemu_settings_written w = bizhgemu_write_settings(s, line, sizeof line);
+	IS(w.refusal, 0);
+	IS(w.bytes, BIZHGEMU_SETTINGS_LINE);
+	IS(memcmp(line, fields, BIZHGEMU_SETTINGS_LINE), 0);
+	IS(line[BIZHGEMU_SETTINGS_LINE], 7);
+	const struct bizhgemu_settings_read r = bizhgemu_read_settings(line, BIZHGEMU_SETTINGS_LINE);
+	IS(r.refusal, 0);
+	IS(memcmp(&r.settings, &s, offsetof(struct bizhgemu_settings, mode) + sizeof s.mode), 0);
+	IS(bizhgemu_write_settings(s, line, BIZHGEMU_SETTINGS_LINE - 1).refusal, BIZHGEMU_REFUSED_OUTPUT);
+	IS(bizhgemu_read_settings(line, BIZHGEMU_SETTINGS_LINE - 1).refusal, BIZHGEMU_REFUSED_SETTINGS_LINE);
+	IS(bizhgemu_read_settings(line, 11).refusal, BIZHGEMU_REFUSED_LINE_VERSION);
+	s.delay = 14;
+	IS(bizhgemu_write_settings(s, line, sizeof line).refusal, BIZHGEMU_REFUSED_SETTINGS);
+	s.mode = BIZHGEMU_SORTED_QUEUE;
+	IS(bizhgemu_write_settings(s, line, sizeof line).refusal, BIZHGEMU_REFUSED_SETTINGS);
+	s.min_delay = s.max_delay = s.target_recovery = 0;
+	IS(bizhgemu_write_settings(s, line, sizeof line).refusal, 0);
+	s.mode = 3;
+	IS(bizhgemu_write_settings(s, line, sizeof line).refusal, BIZHGEMU_REFUSED_SETTINGS);
+}
+
 static void limits(void)
 {
 	IS(open_with(settings()), 0);
@@ -141,16 +182,27 @@ static void ranges(void)
 	RANGE(delay, 60000 * MS + 1);
 	RANGE(initial_nack_delay, 60000 * MS + 1);
 	RANGE(default_nack_resend_delay, 60000 * MS + 1);
-	RANGE(nack_window, 60000 * MS + 1);
 	RANGE(max_entries, 0);
 	RANGE(max_gaps, 998);
 	RANGE(clock_rate, 1000001);
 	RANGE(max_nack_attempts, 256);
-	RANGE(mode, BIZHGEMU_SORTED_QUEUE + 1);
+	RANGE(mode, BIZHGEMU_DYNAMIC + 1);
 	RANGE(has_rtx, 2);
 	RANGE(pt, 128);
 	RANGE(rtx_pt, 128);
 #undef RANGE
+#define DYNAMIC_RANGE(field, value) do { \
+	struct bizhgemu_config c = settings(); \
+	c.field = (value); \
+	IS(open_with(c), 0); \
+	c.mode = BIZHGEMU_DYNAMIC; \
+	IS(open_with(c), BIZHGEMU_REFUSED_SETTINGS); \
+} while (0)
+	DYNAMIC_RANGE(min_delay, 400 * MS + 1);
+	DYNAMIC_RANGE(max_delay, 60000 * MS + 1);
+	DYNAMIC_RANGE(target_recovery, 10000);
+	DYNAMIC_RANGE(max_nack_attempts, 5);
+#undef DYNAMIC_RANGE
 	struct bizhgemu_config c = settings();
 	c.max_entries = D + 1;
 	IS(open_with(c), BIZHGEMU_REFUSED_SESSION);
@@ -263,6 +315,38 @@ static void fields(void)
 	IS(h.number, s->last_number);
 }
 
+/* Four datagrams in one buffer: 10, eleven bytes that are none, 12, and 10 once more. */
+static void bursts(void)
+{
+	uint8_t buffer[13 + 11 + 13 + 13 + 5];
+	uint64_t ends[4] = {13, 24, 37, 50};
+	uint8_t answers[5] = {9, 9, 9, 9, 9};
+	memset(buffer, 0x80, sizeof buffer);
+	memcpy(buffer, datagram(PT, 10, 0, SSRC, 1), 13);
+	memcpy(buffer + 24, datagram(PT, 12, 320, SSRC, 1), 13);
+	memcpy(buffer + 37, datagram(PT, 10, 0, SSRC, 1), 13);
+	IS(open_with(settings()), 0);
+	struct bizhgemu_pushed_burst r = bizhgemu_queue_push_burst(&q, MS, buffer, sizeof buffer, ends, 4, answers, 5);
+	IS(r.refusal, 0);
+	IS(r.answers, 4);
+	IS(answers[0], BIZHGEMU_ANSWER_QUEUED);
+	IS(answers[1], BIZHGEMU_REFUSED_TRUNCATED);
+	IS(answers[2], BIZHGEMU_ANSWER_QUEUED);
+	IS(answers[3], BIZHGEMU_ANSWER_DROPPED);
+	IS(answers[4], 9);
+	IS(q.session.entries, 2);
+	IS(q.session.gaps, 1);
+	IS(q.session.clock, MS);
+	IS(bizhgemu_queue_push_burst(&q, MS, buffer, sizeof buffer, ends, 4, answers, 3).refusal, BIZHGEMU_REFUSED_OUTPUT);
+	IS(bizhgemu_queue_push_burst(&q, MS, buffer, 49, ends, 4, answers, 5).refusal, BIZHGEMU_REFUSED_OUTPUT);
+	ends[3] = 36;
+	IS(bizhgemu_queue_push_burst(&q, MS, buffer, sizeof buffer, ends, 4, answers, 5).refusal, BIZHGEMU_REFUSED_OUTPUT);
+	IS(bizhgemu_queue_push_burst(&q, MS, buffer, sizeof buffer, ends, 0, answers, 5).answers, 0);
+	IS(bizhgemu_queue_push_burst(&q, 0, buffer, sizeof buffer, ends, 1, answers, 5).answers, 1);
+	IS(answers[0], BIZHGEMU_REFUSED_CLOCK);
+	IS(q.session.clock, MS);
+}
+
 /* Each refusal, reached. */
 static void refusals(void)
 {
@@ -298,20 +382,56 @@ static void refusals(void)
 	IS(repair(0, 1, 0, 0).refusal, BIZHGEMU_REFUSED_NO_RTX);
 	c.clock_rate = 0;
 	IS(open_with(c), BIZHGEMU_REFUSED_SETTINGS);
-	for (uint64_t n = 0; n <= 17; n++)
+	const uint8_t cut[] = {0, 1, 0};
+	IS(bizhgemu_read_nacks(cut, sizeof cut, numbers, G).refusal, BIZHGEMU_REFUSED_NACK_ENTRIES);
+	for (uint64_t n = 0; n <= 18; n++)
 		for (uint64_t m = 0; m < n; m++)
 			IS(strcmp(bizhgemu_refusal_text(n), bizhgemu_refusal_text(m)) != 0, 1);
+}
+
+/* The same stream by both calls: the numbers of the one are those that the entries of the other read back as. */
+static void nacks_on_the_wire(void)
+{
+	uint16_t read[BIZHGEMU_NACK_NUMBERS(BIZHGEMU_NACK_BYTES(G))];
+	size_t count = 0, bytes = 0;
+	for (int by_wire = 0; by_wire < 2; by_wire++) {
+		IS(open_with(settings()), 0);
+		IS(push(0, 65530, 0, 1).refusal, 0);
+		IS(push(0, 65535, 0, 1).refusal, 0);
+		IS(push(0, 20, 0, 1).refusal, 0);
+		IS(bizhgemu_queue_nack_wire(&q, 0, wire, sizeof wire - 1).refusal, BIZHGEMU_REFUSED_OUTPUT);
+		memset(wire, 0xaa, sizeof wire);
+		if (by_wire) {
+			const struct bizhgemu_polled_wire r = bizhgemu_queue_nack_wire(&q, 7 * MS, wire, sizeof wire);
+			IS(r.refusal, 0);
+			bytes = r.bytes;
+			IS(q.session.clock, 7 * MS);
+			IS(bizhgemu_queue_nack_wire(&q, 7 * MS, wire, sizeof wire).bytes, 0);
+		} else {
+			count = nack(7).count;
+			IS(count, 24);
+		}
+	}
+	static const uint8_t expected[] = {0xff, 0xfb, 0xff, 0xf7, 0, 12, 0, 0x7f, 0xaa};
+	IS(bytes, 8);
+	IS(memcmp(wire, expected, sizeof expected), 0);
+	IS(bizhgemu_read_nacks(wire, bytes, read, BIZHGEMU_NACK_NUMBERS(bytes) - 1).refusal, BIZHGEMU_REFUSED_OUTPUT);
+	IS(bizhgemu_read_nacks(wire, bytes, read, BIZHGEMU_NACK_NUMBERS(bytes)).numbers, count);
+	IS(memcmp(read, numbers, count * sizeof *read), 0);
 }
 
 int main(void)
 {
 	IS(bizhgemu_version(), BIZHGEMU_VERSION);
 	lengths();
+	settings_line();
 	limits();
 	ranges();
 	defaults();
 	fields();
+	bursts();
 	refusals();
+	nacks_on_the_wire();
 	printf("header against archive: %d checks, %d failures\n", checks, failures);
 	return failures != 0;
 }

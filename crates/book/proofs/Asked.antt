@@ -26,9 +26,9 @@ use Rattle.model.specs.Lists.{keep, some?}
 use Rattle.model.specs.Records.{Entry, Gap, State, highestOf}
 use Rattle.model.specs.Rules.{is, below, without, Place, waits, between, fresh, gapsFrom, gapsAfter, timingsIn, estimateIn, dueAt, due, nacked, nackedIfDue, truncated, overfull, notGivenUp}
 use Rattle.model.specs.Push.{insertSorted, mediaPlace, heard, lastAfter, afterQueued, afterDropped, frontOut, withinDepth, mediaEntry, afterPlaced, afterMedia, Fate, tooLate, recovered, redundant, repairEntry, repairFate, afterFate, afterRepair}
-use Rattle.model.specs.Poll.{drained, lose, goingOut, handOut, afterPoll, dueGaps, nackNumbers, nackAll, afterPollNack, timingsOf}
+use Rattle.model.specs.Poll.{drained, lose, goingOut, handOut, afterPoll, dueGaps, nackNumbers, nackEntries, nackAll, afterPollNack, timingsOf}
 use Rattle.model.specs.Storage.{Storage, Stored, parse}
-use Rattle.model.specs.Calls.{Call, media, repair, poll, pollNack, timeoutReceive, timeoutNack, rtxStats, highestReceived, taken, outputAfter}
+use Rattle.model.specs.Calls.{Call, media, repair, poll, pollNack, nackWire, timeoutReceive, timeoutNack, rtxStats, highestReceived, taken, outputAfter}
 use Rattle.model.specs.Table.{callRefusal, mediaRefusal, repairRefusal, pollRefusal, pollNackRefusal, refusal, openingRefusal}
 use Rattle.model.specs.Did.{did, accepted}
 use Rattle.model.proofs.Lists.{by-cases, by-or, no-eqb, Each, none, more, each-imp, each-both, each-append, each-keep, each-kept, each-map, each-following, Rising, rising-rest, rising-first, holds-of-some}
@@ -39,7 +39,7 @@ use Rattle.model.proofs.SoundPoll.{part-not-given-up, rising-not-given-up, part
 use Rattle.book.specs.Book.{Book}
 use Rattle.book.specs.States.{View, after, Next, stays, moves, Ran}
 use Rattle.book.specs.Claim.{Run, start, call, calls, viewOf}
-use Rattle.book.specs.Nacks.{namedAt, Measured, measured, NacksApart}
+use Rattle.book.specs.Nacks.{namedAt, Measured, measured, Asks, in-a-list, on-the-wire, NacksApart}
 use Rattle.book.proofs.Same.{Same, by-same}
 use Rattle.book.proofs.States.{kept}
 use Rattle.book.proofs.Theorem.{next-call, call-taken, ran}
@@ -124,6 +124,8 @@ module _ (from n : ℕ) where
   taken-since (poll now out) s e i =
       hand-since (goingOut now s (s .entries)) (drained now s) (drained-since now s i (clock-of (s .queue) now (orElse-none _ _ (orElse-none _ _ e .1) .0) .0))
   taken-since (pollNack now out) s e i =
+      nack-since now (drained now s) refl (drained-since now s i (clock-of (s .queue) now (orElse-none _ _ (orElse-none _ _ e .1) .0) .0))
+  taken-since (nackWire now out) s e i =
       nack-since now (drained now s) refl (drained-since now s i (clock-of (s .queue) now (orElse-none _ _ (orElse-none _ _ e .1) .0) .0))
   taken-since (timeoutReceive now) s e i = i
   taken-since (timeoutNack now) s e i = i
@@ -226,8 +228,14 @@ resend-is {s = s} e same m =
     by-same (λ (c : Config) (b : Book). estimateIn (c .senders .«has_rtx») (b .estimate) ≡ OptRtt.Some e → timingsOf (s .queue) .resend ≡ nackResendDelay e) same
     (λ q. rw q refl) m
 
+-- in a list or on the wire, the same is left
+asking : {now : ℕ} {k : Call} → Asks now k → (s : State) → taken k s ≡ afterPollNack now s
+unfolding taken
+asking (in-a-list out) s = refl
+asking (on-the-wire out) s = refl
+
 pub nacks-apart : NacksApart
-unfolding calls taken outputAfter nackNumbers did accepted
+unfolding calls outputAfter nackNumbers nackEntries did accepted
 nacks-apart =
     record {
       listed =
@@ -235,16 +243,21 @@ nacks-apart =
           let x = calls c ks in
           let k = kept (ran c t ks o) in
           rw (eq-eqb (refusal (pollNack now out) (x .stored)) 0 e, named-is now (k .inv .same)) refl;
-      apart =
-          λ c t ks js now later n out out′ o e e′ m first further.
+      wired =
+          λ c t ks now out o e.
           let x = calls c ks in
-          let y = calls c (ks ++ (pollNack now out ∷ js)) in
+          let k = kept (ran c t ks o) in
+          rw (eq-eqb (refusal (nackWire now out) (x .stored)) 0 e, named-is now (k .inv .same)) refl;
+      apart =
+          λ c t ks js k k′ now later n o a a′ e e′ m first further.
+          let x = calls c ks in
+          let y = calls c (ks ++ (k ∷ js)) in
           let kx = kept (ran c t ks o) in
-          let ky = kept (ran c t (ks ++ (pollNack now out ∷ js)) o) in
+          let ky = kept (ran c t (ks ++ (k ∷ js)) o) in
           let f = subst (λ (l : List Gap). T (some? (is n) l)) (named-is now (kx .inv .same)) first in
           let g = subst (λ (l : List Gap). T (some? (is n) l)) (named-is later (ky .inv .same)) further in
-          let i : Since now n (parse (call c x (pollNack now out) .stored)) = subst (Since now n) (sym (call-taken c x (pollNack now out) e)) (since-now now n (parse (x .stored)) (kx .sound) f) in
-          let j : Since now n (parse (y .stored)) = subst (λ (r : Run). Since now n (parse (r .stored))) (sym (foldl-append (call c) (start c) ks (pollNack now out ∷ js))) (calls-since now n c (call c x (pollNack now out)) js i) in
+          let i : Since now n (parse (call c x k .stored)) = subst (Since now n) (sym (call-taken c x k e ∙ asking a (parse (x .stored)))) (since-now now n (parse (x .stored)) (kx .sound) f) in
+          let j : Since now n (parse (y .stored)) = subst (λ (r : Run). Since now n (parse (r .stored))) (sym (foldl-append (call c) (start c) ks (k ∷ js))) (calls-since now n c (call c x k) js i) in
           by-measured m (λ r q. omega (arith, again later n (parse (y .stored)) (ky .sound) g r (resend-is r (ky .inv .same) q) j));
     }
   where

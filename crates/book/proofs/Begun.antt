@@ -30,7 +30,7 @@ use Rattle.model.specs.Push.{extendedNumber, extendedTimestamp, mediaEntry, med
 use Rattle.model.specs.Poll.{drained, lose, goingOut, handOut, afterPoll, nackAll, afterPollNack}
 use Rattle.model.specs.Valid.{lastSound}
 use Rattle.model.specs.Storage.{Storage, Stored, parse}
-use Rattle.model.specs.Calls.{Call, media, repair, poll, pollNack, timeoutReceive, timeoutNack, rtxStats, highestReceived, Answer, queued, dropped, taken, placedAnswer, answered}
+use Rattle.model.specs.Calls.{Call, media, repair, poll, pollNack, nackWire, timeoutReceive, timeoutNack, rtxStats, highestReceived, Answer, queued, dropped, taken, placedAnswer, answered}
 use Rattle.model.specs.Table.{refusal, openingRefusal}
 use Rattle.model.specs.Did.{did}
 use Rattle.model.proofs.Lists.{by-cases}
@@ -182,6 +182,7 @@ begun-taken (repair now d) {s = s} {b = b} same l i =
     (λ t. rw (fate-last now e (repairFate s (e .number)) s) i)
 begun-taken (poll now out) {c = c} {s = s} {b = b} same l i = rw (hear-poll (s .queue) (goingOut now s (s .entries)), poll-span, hand-last) i
 begun-taken (pollNack now out) same l i = rw hear-nack i
+begun-taken (nackWire now out) same l i = i
 begun-taken (timeoutReceive now) same l i = i
 begun-taken (timeoutNack now) same l i = i
 begun-taken rtxStats same l i = i

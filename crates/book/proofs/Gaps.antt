@@ -66,13 +66,13 @@ count-below w n l = count-keep (below w) n l
 pub count-given-up : (set : Settings) (mode : RtpInboundQueueMode) (n : ℕ) (l : List Gap) → count n (gapNumbers (givenUpIn mode set l)) + count n (gapNumbers (notGivenUpIn mode set l)) ≡ count n (gapNumbers l)
 unfolding givenUpIn notGivenUpIn
 count-given-up set Passthrough n l = count-leading (tried (set .«max_nack_attempts»)) n l
-count-given-up set SortedQueue n l = omega (arith, count-nil n)
+count-given-up set (SortedQueue sorted) n l = omega (arith, count-nil n)
 
 -- those lost as w is handed out, and the others
 pub count-lost-below : (mode : RtpInboundQueueMode) (w n : ℕ) (l : List Gap) → count n (gapNumbers (lostBelow mode w l)) + count n (gapNumbers (leftFrom mode w l)) ≡ count n (gapNumbers l)
 unfolding lostBelow leftFrom
 count-lost-below Passthrough w n l = omega (arith, count-nil n)
-count-lost-below SortedQueue w n l = count-below w n l
+count-lost-below (SortedQueue sorted) w n l = count-below w n l
 
 -- ---- the gap of a number
 

@@ -21,7 +21,7 @@ use Rattle.model.specs.Push as P
 use Rattle.model.specs.Push.{insertSorted, mediaEntry, mediaPlace, heard, countDropped, countReceived, afterQueued, afterDropped, frontOut, afterMedia, Fate, tooLate, recovered, redundant, repairEntry, repairFate, afterFate, afterRepair}
 use Rattle.model.specs.Poll.{lose, countLost, drained, ready, handsOut, goingOut, handOut, afterPoll, afterPollNack}
 use Rattle.model.specs.Poll as Q
-use Rattle.model.specs.Calls.{Call, media, repair, poll, pollNack, timeoutReceive, timeoutNack, rtxStats, highestReceived, queued, dropped, packetOf, handed, nackAnswer, taken, answered}
+use Rattle.model.specs.Calls.{Call, media, repair, poll, pollNack, nackWire, timeoutReceive, timeoutNack, rtxStats, highestReceived, queued, dropped, packetOf, handed, nackAnswer, taken, answered}
 use Rattle.model.proofs.Lists.{by-cases, Each, each-first, each-imp, each-insert}
 use Rattle.book.specs.Book as B
 use Rattle.book.specs.Book.{Heard, refused, accepted, Span, none, fromTo, Book, arrive, forgottenBy, pushOut, withinDepth, onMedia, recover, onRepair, giveUp, takeLowest, onPoll, read, enter}
@@ -130,6 +130,7 @@ outOf (media now d) s = []
 outOf (repair now d) s = []
 outOf (poll now lent) s = entryNumbers (goingOut now s (s .entries))
 outOf (pollNack now lent) s = []
+outOf (nackWire now lent) s = []
 outOf (timeoutReceive now) s = []
 outOf (timeoutNack now) s = []
 outOf rtxStats s = []
@@ -158,6 +159,7 @@ given-out (media now d) s = given-media (waits (mediaPlace s (mediaEntry now d (
 given-out (repair now d) s = refl
 given-out (poll now lent) s = given-poll now s (s .entries)
 given-out (pollNack now lent) s = given-nack (length (Q.dueGaps now (s .queue) (s .gaps)))
+given-out (nackWire now lent) s = refl
 given-out (timeoutReceive now) s = refl
 given-out (timeoutNack now) s = refl
 given-out rtxStats s = refl
@@ -173,6 +175,9 @@ moved-beside (poll now lent) s b = rw (hear-poll (s .queue) (goingOut now s (s .
 moved-beside (pollNack now lent) s b =
     let m = drained-moves now s b in
     rw hear-nack (record { handed = m .handed; newly = m .newly; lost = m .lost; counted = m .counted })
+moved-beside (nackWire now lent) s b =
+    let m = drained-moves now s b in
+    record { handed = m .handed; newly = m .newly; lost = m .lost; counted = m .counted }
 moved-beside (timeoutReceive now) s b = still (refl, refl) refl
 moved-beside (timeoutNack now) s b = still (refl, refl) refl
 moved-beside rtxStats s b = still (refl, refl) refl
@@ -239,6 +244,7 @@ module _ (s : State) (out : List ℕ) (l : ListsOf s) (past : PastOf (s .queue .
   past-call (repair now d) = rw append-nil (repair-past now (repairEntry d (s .queue)) (repairFate s (repairEntry d (s .queue) .number)))
   past-call (poll now lent) = poll-past now (s .entries) entries-above
   past-call (pollNack now lent) = rw append-nil past
+  past-call (nackWire now lent) = rw append-nil past
   past-call (timeoutReceive now) = rw append-nil past
   past-call (timeoutNack now) = rw append-nil past
   past-call rtxStats = rw append-nil past
@@ -301,6 +307,7 @@ enter-forgets c (media now d) (accepted out) b = go (media-forgets c now (read b
 enter-forgets c (repair now d) (accepted out) b = inl (repair-forgets now (read b (originalNumber (payloadOf d))) b)
 enter-forgets c (poll now lent) (accepted out) b = inl (poll-forgets c out b)
 enter-forgets c (pollNack now lent) (accepted out) b = inl refl
+enter-forgets c (nackWire now lent) (accepted out) b = inl refl
 enter-forgets c (timeoutReceive now) (accepted out) b = inl refl
 enter-forgets c (timeoutNack now) (accepted out) b = inl refl
 enter-forgets c rtxStats (accepted out) b = inl refl

@@ -13,6 +13,7 @@ use lib.Ieee.Bits.{cond-no}
 use Rattle.rtp.specs.declared.opt.Opt.{Opt}
 use Rattle.rtp.specs.declared.opt.Opt.the-variants.{None, Some}
 use Rattle.config.specs.declared.RtpInboundQueueMode.{RtpInboundQueueMode}
+use Rattle.config.specs.declared.RtpInboundStreamSortedQueueMode.{RtpInboundStreamSortedQueueMode}
 use Rattle.config.specs.declared.RtpInboundQueueMode.the-variants.{Passthrough, SortedQueue}
 use Rattle.words.specs.Order.{leads, ascends}
 use Rattle.model.specs.Lists.{keep, some?}
@@ -31,9 +32,9 @@ passed-other : (mode : RtpInboundQueueMode) (r highest : Opt) (gaps : List Gap) 
     → T (passed mode r n) → Returned highest r → (T (some? (is n) gaps) → Ahead mode r n) → placeOf highest gaps n ≡ other
 unfolding passed atMost Returned Reached Ahead placeOf
 passed-other Passthrough r highest gaps n t u f = absurd t
-passed-other SortedQueue None highest gaps n t u f = absurd t
-passed-other SortedQueue (Some m) None gaps n t u f = absurd u
-passed-other SortedQueue (Some m) (Some h) gaps n t u f =
+passed-other (SortedQueue sorted) None highest gaps n t u f = absurd t
+passed-other (SortedQueue sorted) (Some m) None gaps n t u f = absurd u
+passed-other (SortedQueue sorted) (Some m) (Some h) gaps n t u f =
     cond-no (ltb h n) _ _ (le→nltb h n (omega (arith, leb→le n m t)))
     ∙ cond-no (some? (is n) gaps) _ _ (not-T (some? (is n) gaps) (λ v. absurd (omega (arith, f v, leb→le n m t))))
 
@@ -57,7 +58,7 @@ module _ (s : State) (l : ListsOf s) where
 -- of the last returned, the numbers handed out and those remembered
 unfoldable pub Past : RtpInboundQueueMode → Opt → List ℕ → List Remembered → Type 0
 Past Passthrough r out l = l ≡ []
-Past SortedQueue r out l = T (ascends out) × (Each (λ (n : ℕ). T (atMost n r)) out × Each (λ (x : Remembered). T (atMost (x .number) r)) l)
+Past (SortedQueue sorted) r out l = T (ascends out) × (Each (λ (n : ℕ). T (atMost n r)) out × Each (λ (x : Remembered). T (atMost (x .number) r)) l)
 
 abbrev pub PastOf : RtpInboundQueueMode → List ℕ → State → Type 0
 PastOf mode out s = Past mode (numberOf (s .queue .returned)) out (s .remembered)
@@ -65,26 +66,26 @@ PastOf mode out s = Past mode (numberOf (s .queue .returned)) out (s .remembered
 pub past-none : (mode : RtpInboundQueueMode) → Past mode None [] []
 unfolding Past ascends
 past-none Passthrough = refl
-past-none SortedQueue = (tt, (none, none))
+past-none (SortedQueue sorted) = (tt, (none, none))
 
-pub past-ascends : (r : Opt) (out : List ℕ) (l : List Remembered) → Past SortedQueue r out l → T (ascends out)
+pub past-ascends : (sorted : RtpInboundStreamSortedQueueMode) (r : Opt) (out : List ℕ) (l : List Remembered) → Past (SortedQueue sorted) r out l → T (ascends out)
 unfolding Past
-past-ascends r out l p = p .0
+past-ascends sorted r out l p = p .0
 
 -- ---- the last returned moves on
 
-before : (r : Opt) (w n : ℕ) → Ahead SortedQueue r w → T (atMost n r) → n < w
+before : (sorted : RtpInboundStreamSortedQueueMode) (r : Opt) (w n : ℕ) → Ahead (SortedQueue sorted) r w → T (atMost n r) → n < w
 unfolding Ahead atMost
-before None w n a t = absurd t
-before (Some m) w n a t = omega (arith, leb→le n m t)
+before sorted None w n a t = absurd t
+before sorted (Some m) w n a t = omega (arith, leb→le n m t)
 
 at-most : (w n : ℕ) → n ≤ w → T (atMost n (Some w))
 unfolding atMost
 at-most w n le = le→leb n w le
 
-module _ (r : Opt) (w : ℕ) (a : Ahead SortedQueue r w) where
+module _ (sorted : RtpInboundStreamSortedQueueMode) (r : Opt) (w : ℕ) (a : Ahead (SortedQueue sorted) r w) where
   stays : (n : ℕ) → T (atMost n r) → T (atMost n (Some w))
-  stays n t = let lt : n < w = before r w n a t in at-most w n (omega arith)
+  stays n t = let lt : n < w = before sorted r w n a t in at-most w n (omega arith)
 
   remembered-stay : {l : List Remembered} → Each (λ (x : Remembered). T (atMost (x .number) r)) l → Each (λ (x : Remembered). T (atMost (x .number) (Some w))) l
   remembered-stay h = each-imp (λ x t. stays (x .number) t) h
@@ -93,7 +94,7 @@ module _ (r : Opt) (w : ℕ) (a : Ahead SortedQueue r w) where
 pub past-advance : (mode : RtpInboundQueueMode) (r : Opt) (w : ℕ) (out : List ℕ) (l : List Remembered) → Ahead mode r w → Past mode r out l → Past mode (Some w) out l
 unfolding Past
 past-advance Passthrough r w out l a p = p
-past-advance SortedQueue r w out l a p = (p .0, (each-imp (stays r w a) (p .1 .0), remembered-stay r w a (p .1 .1)))
+past-advance (SortedQueue sorted) r w out l a p = (p .0, (each-imp (stays sorted r w a) (p .1 .0), remembered-stay sorted r w a (p .1 .1)))
 
 ascends-more : (l : List ℕ) (w : ℕ) → T (ascends l) → Each (λ (n : ℕ). n < w) l → T (ascends (l ++ (w ∷ [])))
 unfolding ascends leads
@@ -118,11 +119,11 @@ pub past-hand : (mode : RtpInboundQueueMode) (r : Opt) (w : ℕ) (out : List ℕ
     → Past mode (Some w) (out ++ (w ∷ [])) (rememberedAfter has (lostBelow mode w gaps) l)
 unfolding Past lostBelow remember
 past-hand Passthrough r w out l has gaps a p = ap (rememberedAfter has []) p ∙ none-remembered has
-past-hand SortedQueue r w out l has gaps a p = (
-  ascends-more out w (p .0) (each-imp (λ n t. before r w n a t) (p .1 .0)),
+past-hand (SortedQueue sorted) r w out l has gaps a p = (
+  ascends-more out w (p .0) (each-imp (λ n t. before sorted r w n a t) (p .1 .0)),
   (
-    each-append (each-imp (stays r w a) (p .1 .0)) (more (at-most w w (omega arith)) none),
-    each-remembered (λ (x : Remembered). T (atMost (x .number) (Some w))) has (each-lost w gaps) (remembered-stay r w a (p .1 .1)),
+    each-append (each-imp (stays sorted r w a) (p .1 .0)) (more (at-most w w (omega arith)) none),
+    each-remembered (λ (x : Remembered). T (atMost (x .number) (Some w))) has (each-lost w gaps) (remembered-stay sorted r w a (p .1 .1)),
   ),
 )
 
@@ -140,13 +141,13 @@ none-left n = refl
 pub past-forget : (mode : RtpInboundQueueMode) (r : Opt) (n : ℕ) (out : List ℕ) (l : List Remembered) → Past mode r out l → Past mode r out (forgetFirst n l)
 unfolding Past
 past-forget Passthrough r n out l p = ap (forgetFirst n) p ∙ none-left n
-past-forget SortedQueue r n out l p = (p .0, (p .1 .0, each-forgetFirst n (p .1 .1)))
+past-forget (SortedQueue sorted) r n out l p = (p .0, (p .1 .0, each-forgetFirst n (p .1 .1)))
 
 -- a number that was not passed is not remembered: it gives no sample, and none is forgotten
 not-remembered : (mode : RtpInboundQueueMode) (r : Opt) (n : ℕ) (out : List ℕ) (l : List Remembered) → T (not (passed mode r n)) → Past mode r out l → Each (λ (x : Remembered). T (not (isOf n x))) l
 unfolding Past passed isOf
 not-remembered Passthrough r n out l t p = rw p none
-not-remembered SortedQueue r n out l t p =
+not-remembered (SortedQueue sorted) r n out l t p =
     each-imp (λ x u. no-eqb (x .number) n (λ e. T-not (atMost n r) t (subst (λ (m : ℕ). T (atMost m r)) e u))) (p .1 .1)
 
 absent-keep : (n : ℕ) {l : List Remembered} → Each (λ (x : Remembered). T (not (isOf n x))) l → keep (isOf n) l ≡ []

@@ -26,7 +26,7 @@ use Rattle.model.specs.Push as P
 use Rattle.model.specs.Push.{passed, insertSorted, extendedNumber, mediaEntry, heard, lastAfter, afterQueued, afterDropped, frontOut, afterMedia, repairEntry, repairFate, afterFate, afterRepair}
 use Rattle.model.specs.Poll as Q
 use Rattle.model.specs.Poll.{drained, lose, handsOut, goingOut, ready, handOut, afterPoll, afterPollNack}
-use Rattle.model.specs.Calls.{Call, media, repair, poll, pollNack, timeoutReceive, timeoutNack, rtxStats, highestReceived, queued, dropped, nackAnswer, handed, taken, answered}
+use Rattle.model.specs.Calls.{Call, media, repair, poll, pollNack, nackWire, timeoutReceive, timeoutNack, rtxStats, highestReceived, queued, dropped, nackAnswer, handed, taken, answered}
 use Rattle.model.proofs.Lists.{by-cases}
 use Rattle.book.specs.Sorted.{putIn}
 use Rattle.book.specs.Book as B
@@ -222,6 +222,7 @@ module _ (s : State) (b : Book) (e : highestOf (s .queue .last) ≡ B.highest (b
   same-beside-taken (repair now d) out p = same-afterRepair now d out p
   same-beside-taken (poll now lent) out p = rw (hear-poll (s .queue) (goingOut now s (s .entries))) (same-out now s b e (s .entries) refl)
   same-beside-taken (pollNack now lent) out p = rw hear-nack (same-nackAll now (same-drained now s b e))
+  same-beside-taken (nackWire now lent) out p = same-nackAll now (same-drained now s b e)
   same-beside-taken (timeoutReceive now) out p = same-beside s b e
   same-beside-taken (timeoutNack now) out p = same-beside s b e
   same-beside-taken rtxStats out p = same-beside s b e

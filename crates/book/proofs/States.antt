@@ -96,7 +96,7 @@ inv-taken k {c} {s} {b} {r} f i =
 in-order : (mode : RtpInboundQueueMode) (s : State) (out : List ℕ) → PastOf mode out s → InOrder mode out
 unfolding InOrder
 in-order Passthrough s out p = tt
-in-order SortedQueue s out p = past-ascends (numberOf (s .queue .returned)) out (s .remembered) p
+in-order (SortedQueue sorted) s out p = past-ascends sorted (numberOf (s .queue .returned)) out (s .remembered) p
 
 -- ---- runs
 

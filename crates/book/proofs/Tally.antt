@@ -14,7 +14,7 @@ use Rattle.config.specs.declared.Settings.{Settings}
 use Rattle.model.specs.Lists.{following, some?}
 use Rattle.model.specs.Records.{gapNumbers}
 use Rattle.model.specs.Rules.{is, gapsBelow, Place, first, near, far, fills, placeOf, waits, between, fresh, gapsAfter, MAX-GAP-SIZE, overfull, givenUp, lostBelow}
-use Rattle.model.specs.Calls.{Call, media, repair, poll, pollNack, timeoutReceive, timeoutNack, rtxStats, highestReceived}
+use Rattle.model.specs.Calls.{Call, media, repair, poll, pollNack, nackWire, timeoutReceive, timeoutNack, rtxStats, highestReceived}
 use Rattle.model.proofs.Lists.{by-cases}
 use Rattle.book.specs.Book.{Heard, refused, accepted, Span, none, fromTo, highest, Book, empty, spanAfter, forgottenBy, arrive, pushOut, withinDepth, onMedia, recover, notMissing, onRepair, giveUp, takeLowest, onPoll, nackAll, read, enter, allOf, expected}
 use Rattle.book.proofs.Count.{same, count, count-append, count-putIn, count-one, count-cons, count-nil, following-append, count-following-le}
@@ -211,6 +211,7 @@ tally-enter c (media now d) (accepted out) b t = tally-media c now (read b (sequ
 tally-enter c (repair now d) (accepted out) b t = tally-repair now (read b (originalNumber (payloadOf d))) b t
 tally-enter c (poll now lent) (accepted out) b t = tally-poll c out b t
 tally-enter c (pollNack now lent) (accepted out) b t = tally-nackAll c now (giveUp c b) (tally-giveUp c b t)
+tally-enter c (nackWire now lent) (accepted out) b t = tally-nackAll c now (giveUp c b) (tally-giveUp c b t)
 tally-enter c (timeoutReceive now) (accepted out) b t = t
 tally-enter c (timeoutNack now) (accepted out) b t = t
 tally-enter c rtxStats (accepted out) b t = t

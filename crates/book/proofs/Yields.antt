@@ -27,7 +27,7 @@ use Rattle.model.specs.Lists.{some?}
 use Rattle.model.specs.Rules.{is, Place, placeOf, waits, overfull, gapNackedAt, lostNackedAt, sampledAt}
 use Rattle.model.specs.Poll.{repairFigures}
 use Rattle.model.specs.Storage.{Storage, Stored, parse}
-use Rattle.model.specs.Calls.{Call, media, repair, poll, pollNack, timeoutReceive, timeoutNack, rtxStats, highestReceived, Answer, stats, answered}
+use Rattle.model.specs.Calls.{Call, media, repair, poll, pollNack, nackWire, timeoutReceive, timeoutNack, rtxStats, highestReceived, Answer, stats, answered}
 use Rattle.model.specs.Calls as Calls
 use Rattle.model.specs.Table.{refusal, openingRefusal}
 use Rattle.model.specs.Did.{Done, did, accepted, turnedBack}
@@ -88,6 +88,7 @@ enter-moves c (media now d) (B.accepted out) b =
 enter-moves c (repair now d) (B.accepted out) b = onRepair-moves now (read b (originalNumber (payloadOf d))) b
 enter-moves c (poll now lent) (B.accepted out) b = onPoll-moves c out b
 enter-moves c (pollNack now lent) (B.accepted out) b = refl
+enter-moves c (nackWire now lent) (B.accepted out) b = refl
 enter-moves c (timeoutReceive now) (B.accepted out) b = refl
 enter-moves c (timeoutNack now) (B.accepted out) b = refl
 enter-moves c rtxStats (B.accepted out) b = refl

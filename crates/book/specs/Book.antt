@@ -15,7 +15,7 @@ use Rattle.model.specs.declared.Config.{Config}
 use Rattle.model.specs.Lists.{following, some?}
 use Rattle.model.specs.Records.{Gap, Remembered, gapNumbers}
 use Rattle.model.specs.Rules.{extended, is, without, gapsBelow, gapsFrom, Place, first, near, far, fills, other, placeOf, waits, between, gapsAfter, timingsIn, nackDue, gapNackedAt, lostNackedAt, sampledAt, forgetFirst, overfull, rememberedAfter, givenUp, notGivenUp, lostBelow, leftFrom}
-use Rattle.model.specs.Calls.{Call, media, repair, poll, pollNack, timeoutReceive, timeoutNack, rtxStats, highestReceived}
+use Rattle.model.specs.Calls.{Call, media, repair, poll, pollNack, nackWire, timeoutReceive, timeoutNack, rtxStats, highestReceived}
 use Rattle.book.specs.Sorted.{putIn}
 
 -- What the book hears of an answer: the call was refused, or it was accepted, with whether it was a `poll` that handed out.
@@ -167,6 +167,8 @@ enter c (media now d) (accepted out) b =
 enter c (repair now d) (accepted out) b = onRepair now (read b (originalNumber (payloadOf d))) b
 enter c (poll now lent) (accepted out) b = onPoll c out b
 enter c (pollNack now lent) (accepted out) b = nackAll c now (giveUp c b)
+-- 02, point 1: "counted as a `poll_nack` wherever a rule names one, the lost numbers included"
+enter c (nackWire now lent) (accepted out) b = nackAll c now (giveUp c b)
 enter c (timeoutReceive now) (accepted out) b = b
 enter c (timeoutNack now) (accepted out) b = b
 enter c rtxStats (accepted out) b = b

@@ -1,4 +1,4 @@
--- 02, point 6, as an operator sees it: how soon a number can be asked for again.
+-- 02, point 6, as an operator sees it: how soon a number can be asked for again, in a list or on the wire (02, point 1).
 use mathlib.Core.Path.{_≡_}
 use mathlib.Core.List.{List, _∷_, _++_, map}
 use Prim.Native.Nat.{ℕ, _+_, _≤_}
@@ -8,10 +8,11 @@ use Rattle.rtx_state.specs.declared.RtxRtt.{RtxRtt}
 use Rattle.rtx_state.specs.declared.OptRtt.the-variants.{Some}
 use Rattle.model.specs.declared.Config.{Config}
 use Rattle.model.specs.Lists.{keep, some?}
-use Rattle.model.specs.Records.{Gap}
+use Rattle.nack_pairs.specs.Wire.{entries}
+use Rattle.model.specs.Records.{Gap, gapNumbers}
 use Rattle.model.specs.Rules.{is, due, truncated, timingsIn, estimateIn, notGivenUp}
 use Rattle.model.specs.Storage.{Storage}
-use Rattle.model.specs.Calls.{Call, pollNack}
+use Rattle.model.specs.Calls.{Call, pollNack, nackWire}
 use Rattle.model.specs.Table.{refusal, openingRefusal}
 use Rattle.model.specs.Did.{did}
 use Rattle.book.specs.Book.{Book}
@@ -25,16 +26,25 @@ namedAt c now b = keep (due (timingsIn c (b .estimate)) now) (notGivenUp (c .set
 pub data Measured (c : Config) (b : Book) : Type 0 where
   measured : (e : RtxRtt) → estimateIn (c .senders .«has_rtx») (b .estimate) ≡ Some e → Measured c b
 
+-- a call of this instant that asks for what is due
+pub data Asks (now : ℕ) : Call → Type 0 where
+  in-a-list : (out : List ℕ) → Asks now (pollNack now out)
+  on-the-wire : (out : List ℕ) → Asks now (nackWire now out)
+
 pub record NacksApart : Type 0 where
   -- what goes out are their low 16 bits, in order
   pub listed :
       (c : Config) (t : Storage) (ks : List Call) (now : ℕ) (out : List ℕ) → openingRefusal c t ≡ 0 → refusal (pollNack now out) (calls c ks .stored) ≡ 0
       → did (pollNack now out) (calls c ks .stored) .output ≡ over (map truncated (namedAt c now (calls c ks .book))) out
-  -- After the calls ks a list went out at `now`, and after some more at `later`, while an estimate stood: a number n that both name was asked
+  -- or the entries that name them
+  pub wired :
+      (c : Config) (t : Storage) (ks : List Call) (now : ℕ) (out : List ℕ) → openingRefusal c t ≡ 0 → refusal (nackWire now out) (calls c ks .stored) ≡ 0
+      → did (nackWire now out) (calls c ks .stored) .output ≡ over (entries (gapNumbers (namedAt c now (calls c ks .book)))) out
+  -- After the calls ks it was asked at `now`, and after some more at `later`, while an estimate stood: a number n that both name was asked
   -- for again after 1,000,000 ns or more.
   pub apart :
-      (c : Config) (t : Storage) (ks js : List Call) (now later n : ℕ) (out out′ : List ℕ)
+      (c : Config) (t : Storage) (ks js : List Call) (k k′ : Call) (now later n : ℕ)
       → let x = calls c ks in
-      let y = calls c (ks ++ (pollNack now out ∷ js)) in
-      openingRefusal c t ≡ 0 → refusal (pollNack now out) (x .stored) ≡ 0 → refusal (pollNack later out′) (y .stored) ≡ 0 → Measured c (y .book)
+      let y = calls c (ks ++ (k ∷ js)) in
+      openingRefusal c t ≡ 0 → Asks now k → Asks later k′ → refusal k (x .stored) ≡ 0 → refusal k′ (y .stored) ≡ 0 → Measured c (y .book)
       → T (some? (is n) (namedAt c now (x .book))) → T (some? (is n) (namedAt c later (y .book))) → now + 1000000 ≤ later

@@ -11,6 +11,7 @@ use Rattle.rtx_state.specs.declared.OptRtt.{OptRtt}
 use Rattle.rtx_state.specs.declared.OptRtt.the-variants as OptRtt
 use Rattle.rtx_state.specs.RoundTrip.{sampledRtt}
 use Rattle.rtx_state.specs.Drift.{recurrence}
+use Rattle.config.specs.declared.RtpInboundStreamSortedQueueMode.the-variants.{Fixed}
 use Rattle.config.specs.declared.RtpInboundQueueMode.the-variants.{SortedQueue}
 use Rattle.rtp_packet.specs.Original.{originalRefusal, originalNumber, originalPayload}
 use Rattle.model.specs.declared.Config.{Config}
@@ -91,7 +92,7 @@ abbrev pub config : ℕ → ℕ → Config
 config D initialDelay =
     record {
       settings =
-          record { mode = SortedQueue; «clock_rate» = 8000; «max_entries» = D; «max_gaps» = 999; delay = 100000000; «initial_nack_delay» = initialDelay; «default_nack_resend_delay» = 20000000; «max_nack_attempts» = 10; «nack_window» = 1000000000 };
+          record { mode = SortedQueue Fixed; «clock_rate» = 8000; «max_entries» = D; «max_gaps» = 999; delay = 100000000; «initial_nack_delay» = initialDelay; «default_nack_resend_delay» = 20000000; «max_nack_attempts» = 10 };
       senders = record { pt = 0; ssrc = record { 0 = 0 }; «has_rtx» = true; «rtx_pt» = 1; «rtx_ssrc» = record { 0 = 1 } };
     }
 

@@ -14,7 +14,7 @@ use Rattle.model.specs.declared.Config.{Config}
 use Rattle.model.specs.Lists.{some?}
 use Rattle.model.specs.Rules.{is, gapNackedAt, lostNackedAt}
 use Rattle.model.specs.Storage.{Storage}
-use Rattle.model.specs.Calls.{Call, media, repair, poll, pollNack, timeoutReceive, timeoutNack, rtxStats, highestReceived, stats}
+use Rattle.model.specs.Calls.{Call, media, repair, poll, pollNack, nackWire, timeoutReceive, timeoutNack, rtxStats, highestReceived, stats}
 use Rattle.model.specs.Table.{openingRefusal}
 use Rattle.model.specs.Did.{did}
 use Rattle.book.specs.Book.{Heard, refused, accepted, Book, read}
@@ -35,6 +35,7 @@ yields (media now d) (accepted out) b = []
 yields (repair now d) (accepted out) b = sampleOf now (read b (originalNumber (payloadOf d))) b
 yields (poll now lent) (accepted out) b = []
 yields (pollNack now lent) (accepted out) b = []
+yields (nackWire now lent) (accepted out) b = []
 yields (timeoutReceive now) (accepted out) b = []
 yields (timeoutNack now) (accepted out) b = []
 yields rtxStats (accepted out) b = []

@@ -16,7 +16,7 @@ use Rattle.model.specs.declared.Config.{Config}
 use Rattle.model.specs.Records.{State, newState, entryNumbers, gapNumbers, highestOf}
 use Rattle.model.specs.Rules.{placeOf, waits, overfull, MAX-GAP-SIZE}
 use Rattle.model.specs.Valid.{sound}
-use Rattle.model.specs.Calls.{Call, media, Answer, refused, queued, dropped, repaired, nothing, packet, nack, timeout, stats, highest, taken, answered}
+use Rattle.model.specs.Calls.{Call, media, Answer, refused, queued, dropped, repaired, nothing, packet, nack, wire, timeout, stats, highest, taken, answered}
 use Rattle.model.specs.Table.{configValid, callRefusal}
 use Rattle.book.specs.Sorted.{putAllIn, sort}
 use Rattle.book.specs.Book as B
@@ -33,6 +33,7 @@ hear (repaired f) = B.accepted false
 hear nothing = B.accepted false
 hear (packet p) = B.accepted true
 hear (nack k) = B.accepted false
+hear (wire k) = B.accepted false
 hear (timeout t) = B.accepted false
 hear (stats r) = B.accepted false
 hear (highest n) = B.accepted false
@@ -46,6 +47,7 @@ given (repaired f) = []
 given nothing = []
 given (packet p) = p .number ∷ []
 given (nack k) = []
+given (wire k) = []
 given (timeout t) = []
 given (stats r) = []
 given (highest n) = []
@@ -81,7 +83,7 @@ pub data Ran (c : Config) : View → Type 0 where
 -- "In sorted mode numbers are handed out strictly ascending."
 unfoldable pub InOrder : RtpInboundQueueMode → List ℕ → Type 0
 InOrder Passthrough l = Unit {0}
-InOrder SortedQueue l = T (ascends l)
+InOrder (SortedQueue sorted) l = T (ascends l)
 
 pub record HoldsIn (c : Config) (x : View) : Type 0 where
   -- "two lists of sequence numbers are afterwards equal exactly when no number was forgotten: all from the first accepted media packet to

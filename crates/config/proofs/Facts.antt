@@ -9,7 +9,7 @@ use Rattle.rtx_state.specs.declared.OptRtt.{OptRtt}
 use Rattle.rtx_state.specs.declared.OptRtt.the-variants.{None, Some}
 use Rattle.rtx_state.proofs.Range.{delay-lt}
 use Rattle.config.specs.Timings.{resendDelayOf}
-use Rattle.config.specs.Valid.{within, longest, settingsValid}
+use Rattle.config.specs.Valid.{within, longest, mostAttempts, modeValid, settingsValid}
 use Rattle.config.specs.declared.Settings.{Settings}
 
 pub record Usable (s : Settings) : Type 0 where
@@ -22,9 +22,9 @@ pub record Usable (s : Settings) : Type 0 where
   pub delay : s .delay ≤ longest
   pub initial : s .«initial_nack_delay» ≤ longest
   pub resend : s .«default_nack_resend_delay» ≤ longest
-  pub window : s .«nack_window» ≤ longest
   pub attempts-some : 1 ≤ s .«max_nack_attempts»
-  pub attempts : s .«max_nack_attempts» ≤ 255
+  pub attempts : s .«max_nack_attempts» ≤ mostAttempts (s .mode)
+  pub mode : T (modeValid (s .mode))
 
 -- the parts of a conjunction of eight
 parts : (a b c d e f g h : Bool) → T (a && b && c && d && e && f && g && h) → T a × T b × T c × T d × T e × T f × T g × T h
@@ -52,11 +52,11 @@ pub usable : (s : Settings) → T (settingsValid s) → Usable s
 unfolding settingsValid
 usable s t =
     let p =
-    parts (within 1 1000000 (s .«clock_rate»)) (within 1 1024 (s .«max_entries»)) (within 999 4096 (s .«max_gaps»)) (leb (s .delay) longest) (leb (s .«initial_nack_delay») longest) (leb (s .«default_nack_resend_delay») longest) (leb (s .«nack_window») longest) (within 1 255 (s .«max_nack_attempts»)) t in
+    parts (within 1 1000000 (s .«clock_rate»)) (within 1 1024 (s .«max_entries»)) (within 999 4096 (s .«max_gaps»)) (leb (s .delay) longest) (leb (s .«initial_nack_delay») longest) (leb (s .«default_nack_resend_delay») longest) (within 1 (mostAttempts (s .mode)) (s .«max_nack_attempts»)) (modeValid (s .mode)) t in
     let rate = ends 1 1000000 (s .«clock_rate») (p .0) in
     let entries = ends 1 1024 (s .«max_entries») (p .1) in
     let gaps = ends 999 4096 (s .«max_gaps») (p .2) in
-    let attempts = ends 1 255 (s .«max_nack_attempts») (p .7) in
+    let attempts = ends 1 (mostAttempts (s .mode)) (s .«max_nack_attempts») (p .6) in
     record {
       rate-some = rate .0;
       rate = rate .1;
@@ -67,9 +67,9 @@ usable s t =
       delay = leb→le (s .delay) longest (p .3);
       initial = leb→le (s .«initial_nack_delay») longest (p .4);
       resend = leb→le (s .«default_nack_resend_delay») longest (p .5);
-      window = leb→le (s .«nack_window») longest (p .6);
       attempts-some = attempts .0;
       attempts = attempts .1;
+      mode = p .7;
     }
 
 pub resend-lt : (s : Settings) (rtt : OptRtt) → s .«default_nack_resend_delay» ≤ longest → T (optRttInRange rtt) → resendDelayOf s rtt < 2 ^ 54

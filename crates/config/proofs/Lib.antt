@@ -1,2 +1,4 @@
 -- What the proofs of several functions, and of other crates, use.
 pub mod Facts
+pub mod Bounds
+pub mod Spread

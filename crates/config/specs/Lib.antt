@@ -2,3 +2,5 @@
 pub mod Mode
 pub mod Timings
 pub mod Valid
+pub mod Delay
+pub mod Claims

@@ -1,4 +1,4 @@
--- 003; 01, "Gap" and "Repair state": the delays before a gap is NACKed, first and again, and the delay of a sorted queue, all in nanoseconds.
+-- 003; 01, "Gap" and "Repair state": the delays before a gap is NACKed, first and again, in nanoseconds.
 use Prim.Native.Nat.{ℕ}
 use Rattle.rtx_state.specs.RoundTrip.{nackResendDelay}
 use Rattle.rtx_state.specs.declared.OptRtt.{OptRtt}
@@ -15,7 +15,3 @@ resendDelayOf s (Some e) = nackResendDelay e
 unfoldable pub nackTimings : Settings → OptRtt → NackTimings
 unfolding resendDelayOf
 nackTimings s rtt = record { initial = s .«initial_nack_delay»; resend = resendDelayOf s rtt }
-
--- `Fixed`: the setting
-abbrev pub targetDelay : Settings → ℕ
-targetDelay s = s .delay

@@ -19,7 +19,7 @@ use Rattle.model.specs.Records.{Entry, State, newQueue, newState}
 use Rattle.model.specs.Rules.{Place, waits, overfull}
 use Rattle.model.specs.Push.{Fate, tooLate, recovered, redundant, jitterAfter, heard, afterDropped, afterQueued, frontOut, withinDepth, afterPlaced, afterMedia, afterFate, afterRepair}
 use Rattle.model.specs.Poll.{lose, drained, goingOut, handOut, afterPoll, nackAll, afterPollNack}
-use Rattle.model.specs.Calls.{Call, media, repair, poll, pollNack, timeoutReceive, timeoutNack, rtxStats, highestReceived, taken}
+use Rattle.model.specs.Calls.{Call, media, repair, poll, pollNack, nackWire, timeoutReceive, timeoutNack, rtxStats, highestReceived, taken}
 use Rattle.ffi_words.specs.Words.{FloatsFit}
 
 -- ---- a property of either branch
@@ -124,6 +124,7 @@ taken-fits (media now d) s h = placed-fits now _ _ s h
 taken-fits (repair now d) s h = fate-fits now _ _ s h
 taken-fits (poll now out) s h = hand-out-fits (goingOut now s (s .entries)) (drained now s) (drained-fits now s h)
 taken-fits (pollNack now out) s h = drained-fits now s h
+taken-fits (nackWire now out) s h = drained-fits now s h
 taken-fits (timeoutReceive now) s h = h
 taken-fits (timeoutNack now) s h = h
 taken-fits rtxStats s h = h

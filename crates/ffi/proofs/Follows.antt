@@ -25,12 +25,13 @@ use Rattle.ffi_words.specs.declared.SessionWords.{SessionWords}
 use Rattle.ffi_words.specs.declared.answers.Pushed.{Pushed}
 use Rattle.ffi_words.specs.declared.answers.Polled.{Polled}
 use Rattle.ffi_words.specs.declared.answers.PolledNack.{PolledNack}
+use Rattle.ffi_words.specs.declared.answers.PolledWire.{PolledWire}
 use Rattle.ffi_words.specs.Words.{configReadable, readable, configOf, sessionOf, wordsOf, FloatsFit}
-use Rattle.ffi_words.specs.Told.{refusalIn, sessionAfter, openTold, pushed, polled, polledNack}
+use Rattle.ffi_words.specs.Told.{refusalIn, sessionAfter, openTold, pushed, polled, polledNack, polledWire}
 use Rattle.ffi_words.proofs.Kept.{words-kept}
 use Rattle.ffi.proofs.Floats.{taken-fits, new-fits}
 use Rattle.ffi.specs.Exported.{standsFor, Given, unread, told, called, Gives, alone, openedBy, openedWords}
-use Rattle.ffi.specs.Follows.{ExportedCall, push, push-rtx, polls, polls-nack, receive-timeout, nack-timeout, repair-figures, highest-number, ReadAs, Follows}
+use Rattle.ffi.specs.Follows.{ExportedCall, push, push-rtx, polls, polls-nack, nacks-wire, receive-timeout, nack-timeout, repair-figures, highest-number, ReadAs, Follows}
 
 -- ---- the answer of an accepted call is no refusal
 
@@ -55,6 +56,7 @@ no-refusal (Calls.media now d) s = one-of-two (waits (mediaPlace s (mediaEntry n
 no-refusal (Calls.repair now d) s = refl
 no-refusal (Calls.poll now out) s = no-refusal-handed (s .queue) (goingOut now s (s .entries))
 no-refusal (Calls.pollNack now out) s = no-refusal-nack (length (dueGaps now (s .queue) (s .gaps)))
+no-refusal (Calls.nackWire now out) s = refl
 no-refusal (Calls.timeoutReceive now) s = refl
 no-refusal (Calls.timeoutNack now) s = refl
 no-refusal Calls.rtxStats s = refl
@@ -132,11 +134,12 @@ module _ {A : Type 0} (tell : Answer → A) (k : Call) (reads : (m : Stored) →
       (readable-w, sym (ap (λ (s : Session). record { session = s; storage = did k m .stored .storage }) s-is ∙ ap (λ (y : Storage). standsFor w y) u-is))
 
 at-call : {w v : SessionWords} {t u : Storage} {k : Call} {h : Heard} {ns : List ℕ} → readable w ≡ true → ExportedCall w t k v u h ns → ReadAs v u (did k (standsFor w t) .stored)
-unfolding pushed polled polledNack taken
+unfolding pushed polled polledNack polledWire taken
 at-call {w} {t = t} r (push g) = gives-leaves pushed (λ (p : Pushed). p .session) (λ a y. refl) _ w t r g
 at-call {w} {t = t} r (push-rtx g) = gives-leaves pushed (λ (p : Pushed). p .session) (λ a y. refl) _ w t r g
 at-call {w} {t = t} r (polls g) = gives-leaves polled (λ (p : Polled). p .session) (λ a y. refl) _ w t r g
 at-call {w} {t = t} r (polls-nack g) = gives-leaves polledNack (λ (p : PolledNack). p .session) (λ a y. refl) _ w t r g
+at-call {w} {t = t} r (nacks-wire g) = gives-leaves polledWire (λ (p : PolledWire). p .session) (λ a y. refl) _ w t r g
 at-call {w} {t = t} r (receive-timeout g) = read-leaves _ _ (λ m. refl) w t r g
 at-call {w} {t = t} r (nack-timeout g) = read-leaves _ _ (λ m. refl) w t r g
 at-call {w} {t = t} r (repair-figures g) = read-leaves _ _ (λ m. refl) w t r g

@@ -3,3 +3,4 @@ pub mod Given
 pub mod Floats
 pub mod Follows
 pub mod Runs
+pub mod Burst

@@ -38,14 +38,15 @@ use Rattle.ffi_words.specs.declared.SessionWords.{SessionWords}
 use Rattle.ffi_words.specs.declared.answers.Opened.{Opened}
 use Rattle.ffi_words.specs.declared.answers.Pushed.{Pushed}
 use Rattle.ffi_words.specs.declared.answers.PolledNack.{PolledNack}
+use Rattle.ffi_words.specs.declared.answers.PolledWire.{PolledWire}
 use Rattle.ffi_words.specs.declared.figures.Figures.{Figures}
 use Rattle.ffi_words.specs.declared.figures.Timeout.{Timeout}
 use Rattle.ffi_words.specs.declared.figures.RtxStats.{RtxStats}
 use Rattle.ffi_words.specs.declared.figures.Highest.{Highest}
 use Rattle.ffi_words.specs.Words.{configReadable, readable, configOf, queueOf, sessionOf}
-use Rattle.ffi_words.specs.Told.{refusalIn, packetIn, optWords, valueOf, packetWords, statsWords, openTold, pushed, polled, polledNack, timeoutTold, statsTold, highestTold}
+use Rattle.ffi_words.specs.Told.{refusalIn, packetIn, optWords, valueOf, packetWords, statsWords, openTold, pushed, polled, polledNack, polledWire, timeoutTold, statsTold, highestTold}
 use Rattle.ffi.specs.Exported.{standsFor, Given, told, called, Gives, alone, openedBy, openedWords, figuresOf, queueFigures, figures}
-use Rattle.ffi.specs.Follows.{heardIn, numbersIn, ExportedCall, push, push-rtx, polls, polls-nack, receive-timeout, nack-timeout, repair-figures, highest-number}
+use Rattle.ffi.specs.Follows.{heardIn, numbersIn, ExportedCall, push, push-rtx, polls, polls-nack, nacks-wire, receive-timeout, nack-timeout, repair-figures, highest-number}
 use Rattle.ffi.specs.Runs.{nextRun, MadeInWords, opening, further, looked, EveryRunInWords}
 use Rattle.ffi.proofs.Follows.{no-refusal as no-refusal-in, follows}
 
@@ -113,11 +114,12 @@ stats-number n OptRtxStats.None = refl
 stats-number n (OptRtxStats.Some f) = refl
 
 exported-hears : {w v : SessionWords} {t u : Storage} {k : Call} {h : Heard} {ns : List ℕ} → readable w ≡ true → ExportedCall w t k v u h ns → Hears (did k (standsFor w t) .answer) h ns
-unfolding pushed polledNack timeoutTold statsTold highestTold answered hear given told
+unfolding pushed polledNack polledWire timeoutTold statsTold highestTold answered hear given told
 exported-hears {w} {t = t} r (push g) = gives-hears pushed (λ (p : Pushed). p .refusal) (λ a y. refl) _ (media-hears _ _) w t r g
 exported-hears {w} {t = t} r (push-rtx g) = gives-hears pushed (λ (p : Pushed). p .refusal) (λ a y. refl) _ (λ s. (refl, refl)) w t r g
 exported-hears {w} {t = t} r (polls g) = rw (value-is polled _ w t r g) (poll-hears _ _ (standsFor w t) _)
 exported-hears {w} {t = t} r (polls-nack g) = gives-hears polledNack (λ (p : PolledNack). p .refusal) (λ a y. refl) _ (λ s. numbers-due _) w t r g
+exported-hears {w} {t = t} r (nacks-wire g) = gives-hears polledWire (λ (p : PolledWire). p .refusal) (λ a y. refl) _ (λ s. (refl, refl)) w t r g
 exported-hears {w} {t = t} r (receive-timeout g) = gives-hears (alone timeoutTold) (λ (p : Timeout). p .refusal) (λ a y. refl) _ (λ s. (refl, refl)) w t r g
 exported-hears {w} {t = t} r (nack-timeout g) = gives-hears (alone timeoutTold) (λ (p : Timeout). p .refusal) (λ a y. refl) _ (λ s. (refl, refl)) w t r g
 exported-hears {w} {t = t} r (repair-figures g) = gives-hears (alone statsTold) (λ (p : RtxStats). p .refusal) (λ a y. stats-number _ _) _ (λ s. (refl, refl)) w t r g
@@ -153,10 +155,10 @@ module _ (c : ConfigWords) (t : Storage) where
 
 -- ---- runs
 
-record Stands (c : ConfigWords) (ks : List Call) (w : SessionWords) (x : Run) : Type 0 where
-  made : Code.Made (configOf c) ks x
-  readable-words : readable w ≡ true
-  stored-is : x .stored ≡ standsFor w (x .stored .storage)
+pub record Stands (c : ConfigWords) (ks : List Call) (w : SessionWords) (x : Run) : Type 0 where
+  pub made : Code.Made (configOf c) ks x
+  pub readable-words : readable w ≡ true
+  pub stored-is : x .stored ≡ standsFor w (x .stored .storage)
 
 at-opening : {c : ConfigWords} (t : Storage) {u : Storage} {r : Opened} → openedWords c t ≡ record { value = r; storage = u; output = [] } → r .refusal ≡ 0
     → Stands c [] (r .session) (record { stored = standsFor (r .session) u; book = empty; returned = [] })
@@ -179,7 +181,7 @@ module _ {c : ConfigWords} {ks : List Call} {w v : SessionWords} {u : Storage} {
   unfolding call
   same-call = rw (left, heard .0, heard .1)
 
-stands : {c : ConfigWords} {ks : List Call} {w : SessionWords} {x : Run} → MadeInWords c ks w x → Stands c ks w x
+pub stands : {c : ConfigWords} {ks : List Call} {w : SessionWords} {x : Run} → MadeInWords c ks w x → Stands c ks w x
 stands (opening t e z) = at-opening t e z
 stands (further k m e) = at-call k (stands m) e
 stands (looked m e) = stands m

@@ -4,7 +4,9 @@ use mathlib.Core.Path.{_≡_}
 use mathlib.Core.Bool.{_&&_, cond}
 use mathlib.Core.List.{List, []}
 use Prim.Native.Nat.{ℕ}
+use lib.ListN.{length}
 use Rattle.refusals.specs.Refusals.{SETTINGS, SESSION}
+use Rattle.nack_pairs.specs.Reader.{readAnswer, listAfter}
 use Rattle.jitter.specs.Interarrival.{jitterGet}
 use Rattle.config.specs.Valid.{depthValid, gapsValid}
 use Rattle.model.specs.declared.Queue.{Queue}
@@ -20,8 +22,9 @@ use Rattle.ffi_words.specs.declared.SessionWords.{SessionWords}
 use Rattle.ffi_words.specs.declared.answers.Opened.{Opened}
 use Rattle.ffi_words.specs.declared.figures.Figures.{Figures}
 use Rattle.ffi_words.specs.declared.figures.Lengths.{Lengths}
+use Rattle.ffi_words.specs.declared.figures.ReadNumbers.{ReadNumbers}
 use Rattle.ffi_words.specs.Words.{configReadable, readable, configOf, queueOf, sessionOf}
-use Rattle.ffi_words.specs.Told.{back, openTold, noFigures}
+use Rattle.ffi_words.specs.Told.{back, numbersTold, openTold, noFigures}
 
 -- the session that the words stand for, beside the storage
 abbrev pub standsFor : SessionWords → Storage → Stored
@@ -58,6 +61,16 @@ openedBy o = record { value = openTold (o .answer); storage = o .storage; output
 
 unfoldable pub openedWords : ConfigWords → Storage → Given Opened
 openedWords c t = openedBy (cond (configReadable c) (opened (configOf c) t) (record { answer = Did.refused SETTINGS; storage = t }))
+
+-- ---- the reader of NACK entries, without a session
+
+-- what it tells, and the list that it leaves
+pub record Numbers : Type 0 where
+  pub value : ReadNumbers
+  pub list : List ℕ
+
+unfoldable pub readNacks : (bytes list : List ℕ) → Numbers
+readNacks bytes list = record { value = numbersTold (readAnswer bytes (length list)); list = listAfter bytes list }
 
 -- ---- two readings without storage
 

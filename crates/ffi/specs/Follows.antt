@@ -6,7 +6,7 @@ use Prim.Native.Nat.{ℕ}
 use lib.Dec.{eqb}
 use Rattle.model.specs.Records.{newState}
 use Rattle.model.specs.Storage.{Storage, Stored, write}
-use Rattle.model.specs.Calls.{Call, media, repair, poll, pollNack, timeoutReceive, timeoutNack, rtxStats, highestReceived}
+use Rattle.model.specs.Calls.{Call, media, repair, poll, pollNack, nackWire, timeoutReceive, timeoutNack, rtxStats, highestReceived}
 use Rattle.model.specs.Table.{openingRefusal}
 use Rattle.model.specs.Did.{did}
 use Rattle.book.specs.Book.{Heard, refused, accepted}
@@ -15,11 +15,12 @@ use Rattle.ffi_words.specs.declared.SessionWords.{SessionWords}
 use Rattle.ffi_words.specs.declared.answers.Pushed.{Pushed}
 use Rattle.ffi_words.specs.declared.answers.Polled.{Polled}
 use Rattle.ffi_words.specs.declared.answers.PolledNack.{PolledNack}
+use Rattle.ffi_words.specs.declared.answers.PolledWire.{PolledWire}
 use Rattle.ffi_words.specs.declared.figures.Timeout.{Timeout}
 use Rattle.ffi_words.specs.declared.figures.RtxStats.{RtxStats}
 use Rattle.ffi_words.specs.declared.figures.Highest.{Highest}
 use Rattle.ffi_words.specs.Words.{configReadable, readable, configOf}
-use Rattle.ffi_words.specs.Told.{pushed, polled, polledNack, timeoutTold, statsTold, highestTold}
+use Rattle.ffi_words.specs.Told.{pushed, polled, polledNack, polledWire, timeoutTold, statsTold, highestTold}
 use Rattle.ffi.specs.Exported.{standsFor, Gives, alone, openedWords}
 
 -- ---- what the caller is told, by the words alone
@@ -45,6 +46,8 @@ pub data ExportedCall (w : SessionWords) (t : Storage) : Call → SessionWords �
       → ExportedCall w t (poll now out) (r .session) u (heardIn (r .refusal) (r .«has_packet»)) (numbersIn r)
   polls-nack : {now : ℕ} {out left : List ℕ} {r : PolledNack} {u : Storage} → Gives polledNack (pollNack now out) w t r u left
       → ExportedCall w t (pollNack now out) (r .session) u (heardIn (r .refusal) 0) []
+  nacks-wire : {now : ℕ} {out left : List ℕ} {r : PolledWire} {u : Storage} → Gives polledWire (nackWire now out) w t r u left
+      → ExportedCall w t (nackWire now out) (r .session) u (heardIn (r .refusal) 0) []
   receive-timeout : {now : ℕ} {r : Timeout} {u : Storage} → Gives (alone timeoutTold) (timeoutReceive now) w t r u []
       → ExportedCall w t (timeoutReceive now) w u (heardIn (r .refusal) 0) []
   nack-timeout : {now : ℕ} {r : Timeout} {u : Storage} → Gives (alone timeoutTold) (timeoutNack now) w t r u []

@@ -2,3 +2,4 @@
 pub mod Exported
 pub mod Follows
 pub mod Runs
+pub mod Burst

@@ -1,4 +1,5 @@
-// The library for C and Rust: the opening, the eight calls, two readings and the version, on words that the caller keeps and storage that it lends.
+// The library for C and Rust: the opening, the calls, the burst, two readings, the reader of NACK entries and the version, on words that the caller
+// keeps and storage that it lends; in settings.rt the line of settings.
 // No function asks anything of its caller but live slices of the lengths passed, none of which overlaps another that is written.
 ghost use mathlib.Core.Path.{_≡_};
 ghost use mathlib.Core.List.{[]};
@@ -8,6 +9,7 @@ ghost use Rattle.ffi_words.specs.Told as Told;
 ghost use Rattle.ffi.specs.Exported as Exported;
 ghost use Rattle.ffi.specs.Exported.{Gives, alone, openedWords};
 ghost use Rattle.ffi.specs.Follows.{Follows};
+ghost use Rattle.ffi.specs.Burst.{sessionIn, calledBurst, BurstFollows};
 ghost use Rattle.ffi.specs.Runs.{EveryRunInWords};
 use entries::ENTRY_WORDS;
 use entries::PAYLOAD_BYTES;
@@ -17,21 +19,30 @@ use ffi_words::answers;
 use ffi_words::answers::Opened;
 use ffi_words::answers::Polled;
 use ffi_words::answers::PolledNack;
+use ffi_words::answers::PolledWire;
 use ffi_words::answers::Pushed;
+use ffi_words::answers::PushedBurst;
 use ffi_words::figures;
 use ffi_words::figures::Figures;
 use ffi_words::figures::Highest;
 use ffi_words::figures::Lengths;
+use ffi_words::figures::ReadNumbers;
 use ffi_words::figures::RtxStats;
 use ffi_words::figures::Timeout;
+use ffi_words::writing;
 use lost_nacked::MAX_LOST_NACKED;
 use lost_nacked::REMEMBERED_WORDS;
 use model::Queue;
+use model::Session;
+use nack_pairs::read;
 use packet_gaps::GAP_WORDS;
 use poll::nack;
+use poll::wire;
 use push::rtx;
 use queue::open;
 use queue::reading;
+
+pub mod settings;
 
 // The version of this library, as 1,000,000 · major + 1,000 · minor + patch; docs/VERSIONS.md says what changes it.
 pub const VERSION: u64 = 2000;
@@ -81,6 +92,50 @@ pub extern "C" fn bizhgemu_push(
     let answer = done.answer;
     let left = done.session;
     answers::media_told(answer, session, left)
+}
+
+// Words that cannot be read stand for a session of zeros, which check 16 refuses.
+fn session_in(words: SessionWords) -> Session
+    ensures { λ r. ⌜ r ≡ sessionIn words ⌝ }
+{
+    if ffi_words::readable(words) {
+        return ffi_words::session_of(words);
+    }
+    let zeros = writing::no_session();
+    ffi_words::session_of(zeros)
+}
+
+// 02, point 4: a burst of media datagrams. The words come back as they came where no datagram was accepted.
+#[no_mangle]
+pub extern "C" fn bizhgemu_push_burst(
+    session: SessionWords,
+    entries: &mut [u64],
+    payloads: &mut [u8],
+    gaps: &mut [u64],
+    remembered: &mut [u64],
+    now: u64,
+    buffer: &[u8],
+    ends: &[u64],
+    numbers: &mut [u8],
+) -> PushedBurst
+    ensures { λ r. ⌜ calledBurst now (buffer .entry .now) (ends .entry .now) (numbers .entry .now) session (lent entries payloads gaps remembered) ≡ record { value = r; storage = left entries payloads gaps remembered; output = numbers .exit .now } ⌝ }
+{
+    let read = session_in(session);
+    let done = burst::push_burst(
+        read,
+        entries,
+        payloads,
+        gaps,
+        remembered,
+        now,
+        buffer,
+        ends,
+        numbers,
+    );
+    let written = done.answers;
+    let left = done.session;
+    let accepted = burst::any_accepted(numbers, written);
+    answers::burst_told(done.refusal, written, accepted, session, left)
 }
 
 #[no_mangle]
@@ -147,6 +202,36 @@ pub extern "C" fn bizhgemu_poll_nack(
     let answer = done.answer;
     let left = done.session;
     answers::nack_told(answer, session, left)
+}
+
+#[no_mangle]
+pub extern "C" fn bizhgemu_nack_wire(
+    session: SessionWords,
+    entries: &mut [u64],
+    payloads: &mut [u8],
+    gaps: &mut [u64],
+    remembered: &mut [u64],
+    now: u64,
+    out: &mut [u8],
+) -> PolledWire
+    ensures { λ r. ⌜ Gives Told.polledWire (Calls.nackWire now (out .entry .now)) session (lent entries payloads gaps remembered) r (left entries payloads gaps remembered) (out .exit .now) ⌝ }
+{
+    if !ffi_words::readable(session) {
+        return answers::wire_refused(refusals::SESSION, session);
+    }
+    let read = ffi_words::session_of(session);
+    let done = wire::nack_wire(read, entries, payloads, gaps, remembered, now, out);
+    let answer = done.answer;
+    let left = done.session;
+    answers::wire_told(answer, session, left)
+}
+
+// The 16-bit numbers that the entries of a generic NACK name. No session is needed.
+#[no_mangle]
+pub extern "C" fn bizhgemu_read_nacks(entries: &[u8], out: &mut [u16]) -> ReadNumbers
+    ensures { λ r. ⌜ Exported.readNacks (entries .entry .now) (out .entry .now) ≡ record { value = r; list = out .exit .now } ⌝ }
+{
+    figures::numbers_told(read::read(entries, out))
 }
 
 #[no_mangle]
@@ -313,4 +398,9 @@ pub fn calls_follow()
 // Demand 3 of every run of exported calls, each on the words and the storage that the last one left.
 pub fn every_run()
     ensures { λ r. ⌜ EveryRunInWords ⌝ }
+{}
+
+// A burst counts as its media calls in such a run.
+pub fn burst_follows()
+    ensures { λ r. ⌜ BurstFollows ⌝ }
 {}

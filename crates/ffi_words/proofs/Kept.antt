@@ -8,9 +8,10 @@ use Rattle.rtp.specs.declared.opt.OptNumber.{OptNumber}
 use Rattle.rtp.specs.declared.opt.OptNumber.the-variants as OptNumber
 use Rattle.rtx_state.specs.declared.OptRtt.{OptRtt}
 use Rattle.rtx_state.specs.declared.OptRtt.the-variants as OptRtt
+use Rattle.config.specs.declared.RtpInboundStreamSortedQueueMode.the-variants.{Fixed, Dynamic}
 use Rattle.config.specs.declared.RtpInboundQueueMode.{RtpInboundQueueMode}
 use Rattle.config.specs.declared.RtpInboundQueueMode.the-variants.{Passthrough, SortedQueue}
-use Rattle.config.specs.Mode.{modeOf, modeNumber}
+use Rattle.config.specs.Mode.{modeOf, modeNumber, dynamicOf}
 use Rattle.model.specs.declared.LastReceived.{LastReceived}
 use Rattle.model.specs.declared.LastReceived.the-variants as LastReceived
 use Rattle.model.specs.declared.Config.{Config}
@@ -18,10 +19,11 @@ use Rattle.ffi_words.specs.Words.{configReadable, readable, configOf, la
 
 -- ---- each part
 
-mode-kept : (m : RtpInboundQueueMode) → modeOf (modeNumber m) ≡ m
-unfolding modeOf modeNumber
+mode-kept : (m : RtpInboundQueueMode) → modeOf (modeNumber m) (dynamicOf m) ≡ m
+unfolding modeOf modeNumber dynamicOf
 mode-kept Passthrough = refl
-mode-kept SortedQueue = refl
+mode-kept (SortedQueue Fixed) = refl
+mode-kept (SortedQueue (Dynamic d)) = refl
 
 flag-kept : (b : Bool) → eqb (flag b) 1 ≡ b
 unfolding flag
@@ -49,10 +51,11 @@ config-kept c = rw (mode-kept (c .settings .mode), flag-kept (c .senders .«has_
 
 -- ---- each flag
 
-mode-reads : (m : RtpInboundQueueMode) → leb (modeNumber m) 1 ≡ true
+mode-reads : (m : RtpInboundQueueMode) → leb (modeNumber m) 2 ≡ true
 unfolding modeNumber
 mode-reads Passthrough = refl
-mode-reads SortedQueue = refl
+mode-reads (SortedQueue Fixed) = refl
+mode-reads (SortedQueue (Dynamic d)) = refl
 
 flag-reads : (b : Bool) → leb (flag b) 1 ≡ true
 unfolding flag

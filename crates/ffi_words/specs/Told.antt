@@ -1,9 +1,12 @@
 -- What an answer is in words. "Each refusal returns its number only": whatever an answer does not tell is 0.
+use mathlib.Core.Bool.{Bool, cond}
 use mathlib.Core.List.{List, [], _∷_}
 use Prim.Native.Nat.{ℕ}
 use lib.ListN.{length}
 use Rattle.rtp.specs.declared.opt.Opt.{Opt}
 use Rattle.rtp.specs.declared.opt.Opt.the-variants.{None, Some}
+use Rattle.nack_pairs.specs.declared.read.ReadAnswer.{ReadAnswer}
+use Rattle.nack_pairs.specs.declared.read.ReadAnswer.the-variants as ReadAnswer
 use Rattle.packet_loss.specs.Loss.{zero32}
 use Rattle.stats.specs.declared.OptRtxStats.{OptRtxStats}
 use Rattle.stats.specs.declared.OptRtxStats.the-variants as OptRtxStats
@@ -19,10 +22,13 @@ use Rattle.ffi_words.specs.declared.answers.Pushed.{Pushed}
 use Rattle.ffi_words.specs.declared.answers.Packet.{Packet}
 use Rattle.ffi_words.specs.declared.answers.Polled.{Polled}
 use Rattle.ffi_words.specs.declared.answers.PolledNack.{PolledNack}
+use Rattle.ffi_words.specs.declared.answers.PolledWire.{PolledWire}
+use Rattle.ffi_words.specs.declared.answers.PushedBurst.{PushedBurst}
 use Rattle.ffi_words.specs.declared.figures.Timeout.{Timeout}
 use Rattle.ffi_words.specs.declared.figures.RtxStats.{RtxStats}
 use Rattle.ffi_words.specs.declared.figures.Highest.{Highest}
 use Rattle.ffi_words.specs.declared.figures.Figures.{Figures}
+use Rattle.ffi_words.specs.declared.figures.ReadNumbers.{ReadNumbers}
 use Rattle.ffi_words.specs.Words.{flag, wordsOf, noSession}
 
 -- ---- what an answer tells
@@ -35,6 +41,7 @@ refusalIn (Calls.repaired f) = None
 refusalIn Calls.nothing = None
 refusalIn (Calls.packet p) = None
 refusalIn (Calls.nack n) = None
+refusalIn (Calls.wire n) = None
 refusalIn (Calls.timeout t) = None
 refusalIn (Calls.stats f) = None
 refusalIn (Calls.highest n) = None
@@ -53,6 +60,7 @@ numberIn (Calls.repaired f) = Some (fateNumber f)
 numberIn Calls.nothing = None
 numberIn (Calls.packet p) = None
 numberIn (Calls.nack n) = Some n
+numberIn (Calls.wire n) = Some n
 numberIn (Calls.timeout t) = t
 numberIn (Calls.stats f) = None
 numberIn (Calls.highest n) = n
@@ -66,6 +74,7 @@ packetIn (Calls.repaired f) = []
 packetIn Calls.nothing = []
 packetIn (Calls.packet p) = p ∷ []
 packetIn (Calls.nack n) = []
+packetIn (Calls.wire n) = []
 packetIn (Calls.timeout t) = []
 packetIn (Calls.stats f) = []
 packetIn (Calls.highest n) = []
@@ -78,6 +87,7 @@ statsIn (Calls.repaired f) = OptRtxStats.None
 statsIn Calls.nothing = OptRtxStats.None
 statsIn (Calls.packet p) = OptRtxStats.None
 statsIn (Calls.nack n) = OptRtxStats.None
+statsIn (Calls.wire n) = OptRtxStats.None
 statsIn (Calls.timeout t) = OptRtxStats.None
 statsIn (Calls.stats f) = f
 statsIn (Calls.highest n) = OptRtxStats.None
@@ -125,6 +135,13 @@ polled a w = record { refusal = valueOf (refusalIn a); «has_packet» = length (
 unfoldable pub polledNack : Answer → SessionWords → PolledNack
 polledNack a w = record { refusal = valueOf (refusalIn a); count = valueOf (numberIn a); session = w }
 
+unfoldable pub polledWire : Answer → SessionWords → PolledWire
+polledWire a w = record { refusal = valueOf (refusalIn a); bytes = valueOf (numberIn a); session = w }
+
+-- 02, point 4: of a burst; the words of the session that is left, where a datagram was accepted
+unfoldable pub burstTold : (refusal answers : ℕ) → Bool → SessionWords → Session → PushedBurst
+burstTold refusal answers accepted given left = record { refusal = refusal; answers = answers; session = cond accepted (wordsOf left) given }
+
 -- those of the calls that only read, whose caller keeps the words
 
 unfoldable pub timeoutTold : Answer → Timeout
@@ -135,6 +152,11 @@ statsTold a = statsWords (valueOf (refusalIn a)) (statsIn a)
 
 unfoldable pub highestTold : Answer → Highest
 highestTold a = record { refusal = valueOf (refusalIn a); «has_number» = has? (numberIn a); number = valueOf (numberIn a) }
+
+-- that of the reader of NACK entries, which has no session
+unfoldable pub numbersTold : ReadAnswer → ReadNumbers
+numbersTold (ReadAnswer.Numbers n) = record { refusal = 0; numbers = n }
+numbersTold (ReadAnswer.Refused k) = record { refusal = k; numbers = 0 }
 
 -- the opening has no words to give back
 unfoldable pub openTold : Did.Opening → Opened

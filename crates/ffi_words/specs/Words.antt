@@ -9,7 +9,7 @@ use Rattle.rtp.specs.declared.opt.OptNumber.{OptNumber}
 use Rattle.rtp.specs.declared.opt.OptNumber.the-variants as OptNumber
 use Rattle.rtx_state.specs.declared.OptRtt.{OptRtt}
 use Rattle.rtx_state.specs.declared.OptRtt.the-variants as OptRtt
-use Rattle.config.specs.Mode.{modeOf, modeNumber}
+use Rattle.config.specs.Mode.{modeOf, modeNumber, dynamicOf}
 use Rattle.model.specs.declared.Config.{Config}
 use Rattle.model.specs.declared.LastReceived.{LastReceived}
 use Rattle.model.specs.declared.LastReceived.the-variants as LastReceived
@@ -21,10 +21,10 @@ use Rattle.ffi_words.specs.declared.LastWords.{LastWords}
 use Rattle.ffi_words.specs.declared.ReturnedWords.{ReturnedWords}
 use Rattle.ffi_words.specs.declared.RttWords.{RttWords}
 
--- ---- words that can be read: each flag is 0 or 1
+-- ---- words that can be read: each flag is 0 or 1, and the mode 0 to 2
 
 unfoldable pub configReadable : ConfigWords → Bool
-configReadable c = leb (c .mode) 1 && leb (c .«has_rtx») 1
+configReadable c = leb (c .mode) 2 && leb (c .«has_rtx») 1
 
 unfoldable pub readable : SessionWords → Bool
 readable w = configReadable (w .config) && leb (w .«has_last») 1 && leb (w .«has_returned») 1 && leb (w .«has_rtt») 1
@@ -35,7 +35,7 @@ unfoldable pub configOf : ConfigWords → Config
 configOf c =
     record {
       settings =
-          record { mode = modeOf (c .mode); «clock_rate» = c .«clock_rate»; «max_entries» = c .«max_entries»; «max_gaps» = c .«max_gaps»; delay = c .delay; «initial_nack_delay» = c .«initial_nack_delay»; «default_nack_resend_delay» = c .«default_nack_resend_delay»; «max_nack_attempts» = c .«max_nack_attempts»; «nack_window» = c .«nack_window» };
+          record { mode = modeOf (c .mode) (record { min = c .«min_delay»; max = c .«max_delay»; «target_recovery» = c .«target_recovery» }); «clock_rate» = c .«clock_rate»; «max_entries» = c .«max_entries»; «max_gaps» = c .«max_gaps»; delay = c .delay; «initial_nack_delay» = c .«initial_nack_delay»; «default_nack_resend_delay» = c .«default_nack_resend_delay»; «max_nack_attempts» = c .«max_nack_attempts» };
       senders = record { pt = c .pt; ssrc = record { 0 = c .ssrc }; «has_rtx» = eqb (c .«has_rtx») 1; «rtx_pt» = c .«rtx_pt»; «rtx_ssrc» = record { 0 = c .«rtx_ssrc» } };
     }
 
@@ -80,12 +80,15 @@ flag true = 1
 unfoldable pub configWords : Config → ConfigWords
 configWords c =
     let set = c .settings in
+    let dynamic = dynamicOf (set .mode) in
     let who = c .senders in
     record {
       delay = set .delay;
       «initial_nack_delay» = set .«initial_nack_delay»;
       «default_nack_resend_delay» = set .«default_nack_resend_delay»;
-      «nack_window» = set .«nack_window»;
+      «min_delay» = dynamic .min;
+      «max_delay» = dynamic .max;
+      «target_recovery» = dynamic .«target_recovery»;
       «max_entries» = set .«max_entries»;
       «max_gaps» = set .«max_gaps»;
       «clock_rate» = set .«clock_rate»;
@@ -147,7 +150,7 @@ wordsOf s =
 -- zeros, where there is no session to tell
 unfoldable pub noConfig : ConfigWords
 noConfig =
-    record { delay = 0; «initial_nack_delay» = 0; «default_nack_resend_delay» = 0; «nack_window» = 0; «max_entries» = 0; «max_gaps» = 0; «clock_rate» = 0; «max_nack_attempts» = 0; mode = 0; «has_rtx» = 0; ssrc = 0; «rtx_ssrc» = 0; pt = 0; «rtx_pt» = 0 }
+    record { delay = 0; «initial_nack_delay» = 0; «default_nack_resend_delay» = 0; «min_delay» = 0; «max_delay» = 0; «target_recovery» = 0; «max_entries» = 0; «max_gaps» = 0; «clock_rate» = 0; «max_nack_attempts» = 0; mode = 0; «has_rtx» = 0; ssrc = 0; «rtx_ssrc» = 0; pt = 0; «rtx_pt» = 0 }
 
 unfoldable pub noSession : SessionWords
 noSession =

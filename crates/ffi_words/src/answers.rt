@@ -6,14 +6,15 @@ ghost use Rattle.model.specs.Calls as Calls;
 ghost use Rattle.model.specs.Did as Did;
 ghost use Rattle.queue.specs.Answers.{openingAnswer};
 ghost use Rattle.push.specs.Answers.{mediaAnswer, repairAnswer};
-ghost use Rattle.poll.specs.Answers.{packetOf, pollAnswer, nackAnswer};
+ghost use Rattle.poll.specs.Answers.{packetOf, pollAnswer, nackAnswer, wireAnswer};
 ghost use Rattle.ffi_words.specs.Words.{flag, wordsOf};
-ghost use Rattle.ffi_words.specs.Told.{optWords, packetWords, back, pushed, polled, polledNack, openTold};
+ghost use Rattle.ffi_words.specs.Told.{optWords, packetWords, back, pushed, polled, polledNack, polledWire, burstTold, openTold};
 use super::SessionWords;
 use model::Session;
 use poll::HandedOut;
 use poll::PollAnswer;
 use poll::nack::NackAnswer;
+use poll::wire::WireAnswer;
 use push::MediaAnswer;
 use push::rtx::RepairAnswer;
 use queue::Opening;
@@ -30,6 +31,14 @@ pub struct Opened {
 pub struct Pushed {
     pub refusal: u64,
     pub answer: u64,
+    pub session: SessionWords,
+}
+
+// 02, point 4: how many answer numbers stand in the list, one for each datagram.
+#[repr(C)]
+pub struct PushedBurst {
+    pub refusal: u64,
+    pub answers: usize,
     pub session: SessionWords,
 }
 
@@ -60,6 +69,14 @@ pub struct Polled {
 pub struct PolledNack {
     pub refusal: u64,
     pub count: usize,
+    pub session: SessionWords,
+}
+
+// How many bytes of the output are entries of a generic NACK: 0 where nothing is due.
+#[repr(C)]
+pub struct PolledWire {
+    pub refusal: u64,
+    pub bytes: usize,
     pub session: SessionWords,
 }
 
@@ -246,5 +263,60 @@ pub fn nack_told(answer: NackAnswer, given: SessionWords, left: Session) -> Poll
         NackAnswer::Nothing => nack_done(0, left),
         NackAnswer::Numbers(n) => nack_done(n, left),
         NackAnswer::Refused(k) => nack_refused(k, given),
+    }
+}
+
+pub fn wire_refused(refusal: u64, given: SessionWords) -> PolledWire
+    ensures { λ r. ⌜ r ≡ polledWire (Calls.refused refusal) given ⌝ }
+{
+    PolledWire {
+        refusal,
+        bytes: 0,
+        session: given,
+    }
+}
+
+fn wire_done(bytes: usize, left: Session) -> PolledWire
+    ensures { λ r. ⌜ r ≡ record { refusal = 0; bytes = bytes; session = wordsOf left } ⌝ }
+{
+    let session = super::writing::words_of(left);
+    PolledWire {
+        refusal: 0,
+        bytes,
+        session,
+    }
+}
+
+pub fn wire_told(answer: WireAnswer, given: SessionWords, left: Session) -> PolledWire
+    ensures { λ r. ⌜ r ≡ back polledWire (wireAnswer answer) given left ⌝ }
+{
+    match answer {
+        WireAnswer::Bytes(n) => wire_done(n, left),
+        WireAnswer::Refused(k) => wire_refused(k, given),
+    }
+}
+
+// The words as they came where no datagram was accepted.
+pub fn burst_told(
+    refusal: u64,
+    answers: usize,
+    accepted: bool,
+    given: SessionWords,
+    left: Session,
+) -> PushedBurst
+    ensures { λ r. ⌜ r ≡ burstTold refusal answers accepted given left ⌝ }
+{
+    if !accepted {
+        return PushedBurst {
+            refusal,
+            answers,
+            session: given,
+        };
+    }
+    let session = super::writing::words_of(left);
+    PushedBurst {
+        refusal,
+        answers,
+        session,
     }
 }

@@ -2,8 +2,9 @@
 ghost use mathlib.Core.Path.{_≡_};
 ghost use Rattle.model.specs.Calls as Calls;
 ghost use Rattle.queue.specs.Answers.{timeoutAnswer, statsAnswer, highestAnswer};
-ghost use Rattle.ffi_words.specs.Told.{statsWords, timeoutTold, statsTold, highestTold, noFigures};
+ghost use Rattle.ffi_words.specs.Told.{statsWords, timeoutTold, statsTold, highestTold, numbersTold, noFigures};
 use super::answers;
+use nack_pairs::read::ReadAnswer;
 use queue::HighestAnswer;
 use queue::StatsAnswer;
 use queue::TimeoutAnswer;
@@ -46,6 +47,13 @@ pub struct Figures {
     pub bytes_received: u64,
     pub jitter: u64,
     pub loss: f32,
+}
+
+// How many numbers the entries of a generic NACK name.
+#[repr(C)]
+pub struct ReadNumbers {
+    pub refusal: u64,
+    pub numbers: usize,
 }
 
 // Elements of the lent slices.
@@ -165,5 +173,20 @@ pub fn figures_refused(refusal: u64) -> Figures
         bytes_received: 0,
         jitter: 0,
         loss: 0.0,
+    }
+}
+
+pub fn numbers_told(answer: ReadAnswer) -> ReadNumbers
+    ensures { λ r. ⌜ r ≡ numbersTold answer ⌝ }
+{
+    match answer {
+        ReadAnswer::Numbers(n) => ReadNumbers {
+            refusal: 0,
+            numbers: n,
+        },
+        ReadAnswer::Refused(k) => ReadNumbers {
+            refusal: k,
+            numbers: 0,
+        },
     }
 }

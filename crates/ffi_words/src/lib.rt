@@ -4,6 +4,7 @@
 ghost use mathlib.Core.Path.{_≡_};
 ghost use Rattle.ffi_words.specs.Words as Words;
 ghost use Rattle.ffi_words.specs.Words.{Kept};
+use config::RtpInboundStreamDynamicConfig;
 use config::Senders;
 use config::Settings;
 use jitter::Jitter;
@@ -27,13 +28,16 @@ pub mod figures;
 mod floats;
 pub mod writing;
 
-// `mode` is 0 for Passthrough, 1 for SortedQueue.
+// `mode` is 0 for Passthrough, 1 for SortedQueue with a Fixed delay, 2 with a Dynamic one. `min_delay`, `max_delay` and `target_recovery` are
+// those of mode 2: in another they are not looked at, and are 0 in what comes back.
 #[repr(C)]
 pub struct ConfigWords {
     pub delay: u64,
     pub initial_nack_delay: u64,
     pub default_nack_resend_delay: u64,
-    pub nack_window: u64,
+    pub min_delay: u64,
+    pub max_delay: u64,
+    pub target_recovery: u64,
     pub max_entries: usize,
     pub max_gaps: usize,
     pub clock_rate: u32,
@@ -97,10 +101,10 @@ pub struct RttWords {
 pub fn config_readable(c: ConfigWords) -> bool
     ensures { λ r. ⌜ r ≡ Words.configReadable c ⌝ }
 {
-    (c.mode <= 1) & (c.has_rtx <= 1)
+    (c.mode <= 2) & (c.has_rtx <= 1)
 }
 
-// Each flag is 0 or 1.
+// Each flag is 0 or 1, and the mode 0 to 2.
 pub fn readable(s: SessionWords) -> bool
     ensures { λ r. ⌜ r ≡ Words.readable s ⌝ }
 {
@@ -111,7 +115,12 @@ pub fn readable(s: SessionWords) -> bool
 pub fn config_of(c: ConfigWords) -> Config
     ensures { λ r. ⌜ r ≡ Words.configOf c ⌝ }
 {
-    let mode = config::mode_of(c.mode as u64);
+    let dynamic = RtpInboundStreamDynamicConfig {
+        min: c.min_delay,
+        max: c.max_delay,
+        target_recovery: c.target_recovery,
+    };
+    let mode = config::mode_of(c.mode as u64, dynamic);
     let settings = Settings {
         mode,
         clock_rate: c.clock_rate,
@@ -121,7 +130,6 @@ pub fn config_of(c: ConfigWords) -> Config
         initial_nack_delay: c.initial_nack_delay,
         default_nack_resend_delay: c.default_nack_resend_delay,
         max_nack_attempts: c.max_nack_attempts,
-        nack_window: c.nack_window,
     };
     let senders = Senders {
         pt: c.pt,

@@ -1,6 +1,5 @@
 // A session and its settings written as words.
 ghost use mathlib.Core.Path.{_≡_};
-ghost use Rattle.config.specs.Mode.{modeNumber};
 ghost use Rattle.ffi_words.specs.Words as Words;
 ghost use Rattle.ffi_words.specs.Words.{flag};
 use super::ConfigWords;
@@ -9,7 +8,6 @@ use super::ReturnedWords;
 use super::RttWords;
 use super::SessionWords;
 use super::floats;
-use config::RtpInboundQueueMode;
 use model::Config;
 use model::LastReceived;
 use model::Queue;
@@ -17,15 +15,6 @@ use model::Session;
 use rtp::opt::OptNumber;
 use rtx_state::OptRtt;
 use rtx_state::RtxState;
-
-fn mode_word(mode: RtpInboundQueueMode) -> u32
-    ensures { λ r. ⌜ r ≡ modeNumber mode ⌝ }
-{
-    match mode {
-        RtpInboundQueueMode::Passthrough => 0,
-        RtpInboundQueueMode::SortedQueue => 1,
-    }
-}
 
 fn flag32(b: bool) -> u32
     ensures { λ r. ⌜ r ≡ flag b ⌝ }
@@ -38,17 +27,20 @@ fn config_words(c: Config) -> ConfigWords
 {
     let settings = c.settings;
     let mode = settings.mode;
+    let dynamic = mode.dynamic();
     let senders = c.senders;
     ConfigWords {
         delay: settings.delay,
         initial_nack_delay: settings.initial_nack_delay,
         default_nack_resend_delay: settings.default_nack_resend_delay,
-        nack_window: settings.nack_window,
+        min_delay: dynamic.min,
+        max_delay: dynamic.max,
+        target_recovery: dynamic.target_recovery,
         max_entries: settings.max_entries,
         max_gaps: settings.max_gaps,
         clock_rate: settings.clock_rate,
         max_nack_attempts: settings.max_nack_attempts,
-        mode: mode_word(mode),
+        mode: mode.number(),
         has_rtx: flag32(senders.has_rtx),
         ssrc: senders.ssrc.0,
         rtx_ssrc: senders.rtx_ssrc.0,
@@ -155,7 +147,9 @@ fn no_config() -> ConfigWords
         delay: 0,
         initial_nack_delay: 0,
         default_nack_resend_delay: 0,
-        nack_window: 0,
+        min_delay: 0,
+        max_delay: 0,
+        target_recovery: 0,
         max_entries: 0,
         max_gaps: 0,
         clock_rate: 0,

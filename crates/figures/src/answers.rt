@@ -124,7 +124,6 @@ pub(crate) fn timings(initial: u64, default: u64, estimate: u64, srtt: u64, vari
         initial_nack_delay: initial,
         default_nack_resend_delay: default,
         max_nack_attempts: 3,
-        nack_window: 0,
     };
     let rtt = if estimate == 1 {
         OptRtt::Some(RtxRtt { srtt, variation })

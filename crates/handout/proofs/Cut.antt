@@ -13,20 +13,8 @@ use lib.Ieee.{Float, nan, inf, fin, binary64, toBits, fits, toSigned, up, down}
 use lib.Ieee.Scale.{finite}
 use lib.Ieee.Positive.{num, den, den-pos}
 use Rattle.float_laws.proofs.Size.{Size}
-use Rattle.float_laws.proofs.Pattern.{lead, expo, frac, sign, size-pattern, sign-pattern}
+use Rattle.float_laws.proofs.Pattern.{lead, expo, frac, sign, lead-lt, lead-ge, lead-is, size-pattern, sign-pattern}
 use Rattle.handout.specs.Bits.{Below52, exponentOf, wholeOf, withSign}
-
-lead-lt : (e t : ℕ) → t < 2 ^ 52 → lead e t < 2 ^ 53
-lead-lt zero t h = omega arith
-lead-lt (suc j) t h = omega arith
-
-lead-ge : (e t : ℕ) → 0 < e → 2 ^ 52 ≤ lead e t
-lead-ge zero t h = absurd (lt-irrefl 0 h)
-lead-ge (suc j) t h = omega arith
-
-lead-is : (e t : ℕ) → 0 < e → lead e t ≡ t + 2 ^ 52
-lead-is zero t h = absurd (lt-irrefl 0 h)
-lead-is (suc j) t h = omega arith
 
 -- equal fractions have equal whole parts
 same-whole : (a b c d : ℕ) → 0 < b → 0 < d → a * d ≡ c * b → a / b ≡ c / d
@@ -49,18 +37,18 @@ module _ (x : Float) (F : T (fits binary64 x)) (small : Below52 x) where
   b = toBits binary64 x
 
   abbrev e : ℕ
-  e = expo b
+  e = expo binary64 b
 
   abbrev q : ℕ
-  q = lead e (frac b)
+  q = lead binary64 e (frac binary64 b)
 
   v : num x * 2 ^ 1074 ≡ q * 2 ^ (e - 1) * den x
-  v = size-pattern x F (small .0)
+  v = size-pattern binary64 x F (small .0)
 
   in-units : num x / den x ≡ q * 2 ^ (e - 1) / 2 ^ 1074
   in-units = same-whole (num x) (den x) (q * 2 ^ (e - 1)) (2 ^ 1074) (den-pos x) (pow-pos 1074) v
 
-  digits-lt : frac b < 2 ^ 52
+  digits-lt : frac binary64 b < 2 ^ 52
   digits-lt = mod-lt b (pow-pos 52)
 
   pub field-le : exponentOf b ≤ 1074
@@ -76,7 +64,7 @@ module _ (x : Float) (F : T (fits binary64 x)) (small : Below52 x) where
       clash h =
           let p : 0 < e = omega arith in
           let k : 1074 ≤ e - 1 = omega arith in
-          lt-irrefl (2 ^ 1126) (lt-of-le-of-lt (mul-le-mul (lead-ge e (frac b) p) (pow-mono k)) under)
+          lt-irrefl (2 ^ 1126) (lt-of-le-of-lt (mul-le-mul (lead-ge binary64 e (frac binary64 b) p) (pow-mono k)) under)
 
       go : (t : Bool) → (T t → e ≤ 1074) → (T (not t) → 1074 < e) → e ≤ 1074
       go true h k = h tt
@@ -86,14 +74,14 @@ module _ (x : Float) (F : T (fits binary64 x)) (small : Below52 x) where
   none : e < 1023 → num x / den x ≡ 0
   none h =
       let k : 53 + (e - 1) ≤ 1074 = omega arith in
-      in-units ∙ div-eq-of-lt (lt-of-lt-of-le (shl-lt 53 (e - 1) (lead-lt e (frac b) digits-lt)) (pow-mono k))
+      in-units ∙ div-eq-of-lt (lt-of-lt-of-le (shl-lt 53 (e - 1) (lead-lt binary64 e (frac binary64 b) digits-lt)) (pow-mono k))
 
-  some : 1023 ≤ e → num x / den x ≡ (frac b + 2 ^ 52) / 2 ^ (1075 - e)
+  some : 1023 ≤ e → num x / den x ≡ (frac binary64 b + 2 ^ 52) / 2 ^ (1075 - e)
   some h =
       let p : 0 < e = omega arith in
       let shifts : (1075 - e) + (e - 1) ≡ 1074 = let l = field-le in omega arith in
       let unit : 2 ^ (1075 - e) * 2 ^ (e - 1) ≡ 2 ^ 1074 = sym (pow-add 2 (1075 - e) (e - 1)) ∙ ap (λ (k : ℕ). 2 ^ k) shifts in
-      in-units ∙ ap (λ (k : ℕ). q * 2 ^ (e - 1) / k) (sym unit) ∙ mul-div-mul-right q (2 ^ (1075 - e)) (pow-pos (e - 1)) ∙ ap (λ (k : ℕ). k / 2 ^ (1075 - e)) (lead-is e (frac b) p)
+      in-units ∙ ap (λ (k : ℕ). q * 2 ^ (e - 1) / k) (sym unit) ∙ mul-div-mul-right q (2 ^ (1075 - e)) (pow-pos (e - 1)) ∙ ap (λ (k : ℕ). k / 2 ^ (1075 - e)) (lead-is binary64 e (frac binary64 b) p)
 
   whole-is : num x / den x ≡ wholeOf b
   unfolding wholeOf
@@ -112,7 +100,7 @@ module _ (x : Float) (F : T (fits binary64 x)) (small : Below52 x) where
   pub cut-is : toSigned 63 x ≡ withSign (leb (2 ^ 63) b) (wholeOf b)
   cut-is =
       cast-is x (wholeOf b) (small .0) whole-is (let l = below in omega (arith, whole-is))
-      ∙ ap (λ (s : Bool). withSign s (wholeOf b)) (sign-pattern x F (small .0))
+      ∙ ap (λ (s : Bool). withSign s (wholeOf b)) (sign-pattern binary64 x F (small .0))
 
 -- the product of `delta_in_rtp_timesteps` is
 pub below-52 : (x : Float) → Size x 18014400000000 1 → Below52 x

@@ -8,6 +8,7 @@ pub mod SoundQueue
 pub mod SoundPush
 pub mod SoundPoll
 pub mod SoundCalls
+pub mod OnTheWire
 pub mod Flipped
 pub mod Apart
 pub mod Across

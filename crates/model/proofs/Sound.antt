@@ -40,8 +40,8 @@ Under (Some h) n = n < h
 -- in sorted mode above the last returned
 unfoldable pub Ahead : RtpInboundQueueMode → Opt → ℕ → Type 0
 Ahead Passthrough returned n = Unit {0}
-Ahead SortedQueue None n = Unit {0}
-Ahead SortedQueue (Some m) n = m < n
+Ahead (SortedQueue sorted) None n = Unit {0}
+Ahead (SortedQueue sorted) (Some m) n = m < n
 
 unfoldable pub Returned : Opt → Opt → Type 0
 unfolding Reached
@@ -76,14 +76,14 @@ under-to (Some h) n t = lt→ltb n h t
 pub ahead-of : (mode : RtpInboundQueueMode) (r : Opt) (n : ℕ) → T (not (passed mode r n)) → Ahead mode r n
 unfolding passed atMost Ahead
 ahead-of Passthrough r n t = tt
-ahead-of SortedQueue None n t = tt
-ahead-of SortedQueue (Some m) n t = nleb→lt n m t
+ahead-of (SortedQueue sorted) None n t = tt
+ahead-of (SortedQueue sorted) (Some m) n t = nleb→lt n m t
 
 pub ahead-to : (mode : RtpInboundQueueMode) (r : Opt) (n : ℕ) → Ahead mode r n → T (not (passed mode r n))
 unfolding passed atMost Ahead
 ahead-to Passthrough r n t = tt
-ahead-to SortedQueue None n t = tt
-ahead-to SortedQueue (Some m) n t = not-T (leb n m) (λ u. absurd (omega (arith, leb→le n m u)))
+ahead-to (SortedQueue sorted) None n t = tt
+ahead-to (SortedQueue sorted) (Some m) n t = not-T (leb n m) (λ u. absurd (omega (arith, leb→le n m u)))
 
 pub returned-of : (h r : Opt) → T (returnedSound h r) → Returned h r
 unfolding returnedSound Returned

@@ -18,7 +18,7 @@ use Rattle.rtp.specs.Opt.{numberOf}
 use Rattle.model.specs.Records.{State, newQueue, newState, highestOf}
 use Rattle.model.specs.Valid.{lastSound, sound}
 use Rattle.model.specs.Storage.{Storage, Stored, lengthsFit, parse, write}
-use Rattle.model.specs.Calls.{Call, media, repair, poll, pollNack, timeoutReceive, timeoutNack, rtxStats, highestReceived, taken}
+use Rattle.model.specs.Calls.{Call, media, repair, poll, pollNack, nackWire, timeoutReceive, timeoutNack, rtxStats, highestReceived, taken}
 use Rattle.model.specs.Table.{configValid, sessionSound, sessionRefusal, callRefusal, refusal, openingRefusal}
 use Rattle.model.specs.Did.{accepted, did}
 use Rattle.model.proofs.Laid.{Fits, parse-write, lengths-write}
@@ -56,7 +56,8 @@ unfolding callRefusal taken
 taken-sound (media now d) s h e = media-sound now d s h e
 taken-sound (repair now d) s h e = repair-sound now d s h e
 taken-sound (poll now out) s h e = poll-sound now out s h e
-taken-sound (pollNack now out) s h e = poll-nack-sound now out s h e
+taken-sound (pollNack now out) s h e = poll-nack-sound _ _ now s h e
+taken-sound (nackWire now out) s h e = poll-nack-sound _ _ now s h e
 taken-sound (timeoutReceive now) s h e = h
 taken-sound (timeoutNack now) s h e = h
 taken-sound rtxStats s h e = h

@@ -49,14 +49,14 @@ returned-raised h (Some k) n up t = reached-raised h n k up t
 ahead-new : (mode : RtpInboundQueueMode) (h r : Opt) (n : ℕ) → ((j : ℕ) → Reached h j → j < n) → Returned h r → Ahead mode r n
 unfolding Ahead Returned
 ahead-new Passthrough h r n up t = tt
-ahead-new SortedQueue h None n up t = tt
-ahead-new SortedQueue h (Some k) n up t = up k t
+ahead-new (SortedQueue sorted) h None n up t = tt
+ahead-new (SortedQueue sorted) h (Some k) n up t = up k t
 
 -- and any above the one that goes out
 ahead-of-front : (mode : RtpInboundQueueMode) (k n : ℕ) → k < n → Ahead mode (Some k) n
 unfolding Ahead
 ahead-of-front Passthrough k n lt = tt
-ahead-of-front SortedQueue k n lt = lt
+ahead-of-front (SortedQueue sorted) k n lt = lt
 
 -- ---- the lists
 

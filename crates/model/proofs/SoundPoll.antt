@@ -32,44 +32,44 @@ module _ (set : Settings) where
   pub part-not-given-up : (mode : RtpInboundQueueMode) {l : List Gap} (P : Gap → Type 0) → Each P l → Each P (notGivenUpIn mode set l)
   unfolding notGivenUpIn
   part-not-given-up Passthrough P h = each-trailing (tried (set .«max_nack_attempts»)) h
-  part-not-given-up SortedQueue P h = h
+  part-not-given-up (SortedQueue sorted) P h = h
 
   pub rising-not-given-up : (mode : RtpInboundQueueMode) {l : List Gap} → Rising gapNumber l → Rising gapNumber (notGivenUpIn mode set l)
   unfolding notGivenUpIn
   rising-not-given-up Passthrough h = rising-trailing _ (tried (set .«max_nack_attempts»)) h
-  rising-not-given-up SortedQueue h = h
+  rising-not-given-up (SortedQueue sorted) h = h
 
   length-not-given-up : (mode : RtpInboundQueueMode) (l : List Gap) → length (notGivenUpIn mode set l) ≤ length l
   unfolding notGivenUpIn
   length-not-given-up Passthrough l = length-trailing (tried (set .«max_nack_attempts»)) l
-  length-not-given-up SortedQueue l = omega arith
+  length-not-given-up (SortedQueue sorted) l = omega arith
 
 pub part-left : (mode : RtpInboundQueueMode) (n : ℕ) {l : List Gap} (P : Gap → Type 0) → Each P l → Each P (leftFrom mode n l)
 unfolding leftFrom gapsFrom
 part-left Passthrough n P h = h
-part-left SortedQueue n P h = each-keep (λ (g : Gap). not (below n g)) h
+part-left (SortedQueue sorted) n P h = each-keep (λ (g : Gap). not (below n g)) h
 
 rising-left : (mode : RtpInboundQueueMode) (n : ℕ) {l : List Gap} → Rising gapNumber l → Rising gapNumber (leftFrom mode n l)
 unfolding leftFrom gapsFrom
 rising-left Passthrough n h = h
-rising-left SortedQueue n h = rising-keep _ (λ (g : Gap). not (below n g)) h
+rising-left (SortedQueue sorted) n h = rising-keep _ (λ (g : Gap). not (below n g)) h
 
 length-left : (mode : RtpInboundQueueMode) (n : ℕ) (l : List Gap) → length (leftFrom mode n l) ≤ length l
 unfolding leftFrom gapsFrom
 length-left Passthrough n l = omega arith
-length-left SortedQueue n l = length-keep (λ (g : Gap). not (below n g)) l
+length-left (SortedQueue sorted) n l = length-keep (λ (g : Gap). not (below n g)) l
 
 ahead-left : (mode : RtpInboundQueueMode) (n : ℕ) (l : List Gap) → Apart l n → Each (λ (g : Gap). Ahead mode (Some n) (g .number)) (leftFrom mode n l)
 unfolding leftFrom Ahead
 ahead-left Passthrough n l a = each-imp (λ g ne. tt) a
-ahead-left SortedQueue n l a = from-ahead SortedQueue n l a
+ahead-left (SortedQueue sorted) n l a = from-ahead (SortedQueue sorted) n l a
 
 -- ---- the numbers remembered
 
 part-lost : (mode : RtpInboundQueueMode) (n : ℕ) {P : Gap → Type 0} {l : List Gap} → Each P l → Each P (lostBelow mode n l)
 unfolding lostBelow gapsBelow
 part-lost Passthrough n h = none
-part-lost SortedQueue n h = each-keep (below n) h
+part-lost (SortedQueue sorted) n h = each-keep (below n) h
 
 each-latest : {P : Remembered → Type 0} {l : List Remembered} → Each P l → Each P (latest l)
 unfolding latest
@@ -179,9 +179,9 @@ nacks-sound s h =
       lists-in = changed (h .lists-in) _ (λ g. nacked-number (isDue g) (s .queue .clock) g) (λ g k. nacked-in (isDue g) g k);
     }
 
-pub poll-nack-sound : (now : ℕ) (lent : List ℕ) (s : State) → Sound s → pollNackRefusal now lent s ≡ 0 → Sound (afterPollNack now s)
+pub poll-nack-sound : (needed places now : ℕ) (s : State) → Sound s → pollNackRefusal needed places now (s .queue) (s .gaps) ≡ 0 → Sound (afterPollNack now s)
 unfolding nacksRefusal pollNackRefusal afterPollNack drained lose
-poll-nack-sound now lent s h e =
+poll-nack-sound needed places now s h e =
     let a = orElse-none _ _ e in
     let b = orElse-none _ _ (a .1) in
     let c = orElse-none _ _ (b .1) in

@@ -15,7 +15,8 @@ use Rattle.rtx_state.specs.declared.RtxState.{RtxState}
 use Rattle.jitter.specs.Interarrival.{jitterInRange}
 use Rattle.packet_loss.specs.Loss.{lossInRange}
 use Rattle.config.specs.declared.RtpInboundQueueMode.{RtpInboundQueueMode}
-use Rattle.config.specs.Valid.{within, longest, settingsValid, sendersValid}
+use Rattle.config.specs.Valid.{settingsValid, sendersValid}
+use Rattle.config.proofs.Facts.{usable}
 use Rattle.model.specs.declared.Config.{Config}
 use Rattle.model.specs.declared.Counters.{Counters}
 use Rattle.model.specs.declared.Queue.{Queue}
@@ -245,18 +246,5 @@ module _ (s : State) where
 -- ---- the setting that the jitter's range rests on
 
 pub rate-small : (c : Config) → T (configValid c) → c .settings .«clock_rate» ≤ 1000000
-unfolding configValid settingsValid allLeft Parts
-rate-small c t =
-    let set = c .settings in
-    let p =
-    left (within 1 1000000 (set .«clock_rate»))
-    (within 1 1024 (set .«max_entries»)
-    ∷ within 999 4096 (set .«max_gaps»)
-    ∷ leb (set .delay) longest
-    ∷ leb (set .«initial_nack_delay») longest
-    ∷ leb (set .«default_nack_resend_delay») longest
-    ∷ leb (set .«nack_window») longest
-    ∷ within 1 255 (set .«max_nack_attempts»)
-    ∷ [])
-    (and-l (settingsValid set) (sendersValid (c .senders)) t) in
-    leb→le _ _ (left (leb 1 (set .«clock_rate»)) (leb (set .«clock_rate») 1000000 ∷ []) (p .0) .1)
+unfolding configValid
+rate-small c t = usable (c .settings) (and-l (settingsValid (c .settings)) (sendersValid (c .senders)) t) .rate

@@ -5,6 +5,7 @@ pub mod Rules
 pub mod Shared
 pub mod Push
 pub mod Poll
+pub mod Delay
 pub mod Storage
 pub mod Valid
 pub mod Calls
@@ -13,5 +14,6 @@ pub mod Did
 pub mod Unaltered
 pub mod Contract
 pub mod StaysSound
+pub mod OnTheWire
 pub mod Flipped
 pub mod Across

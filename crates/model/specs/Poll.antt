@@ -6,15 +6,16 @@ use lib.ListN.{length, take, drop}
 use Rattle.rtp.specs.Opt.{atMost, optMin}
 use Rattle.rtp.specs.declared.opt.Opt.{Opt}
 use Rattle.rtp.specs.declared.opt.Opt.the-variants.{None, Some}
+use Rattle.nack_pairs.specs.Wire as Wire
 use Rattle.rtx_state.specs.Repair.{rtxStats}
+use Rattle.rtx_state.specs.declared.OptRtt.{OptRtt}
 use Rattle.stats.specs.declared.OptRtxStats.{OptRtxStats}
 use Rattle.stats.specs.declared.OptRtxStats.the-variants as OptRtxStats
 use Rattle.packet_loss.specs.Loss.{recordLost}
 use Rattle.config.specs.declared.RtpInboundQueueMode.{RtpInboundQueueMode}
 use Rattle.config.specs.declared.RtpInboundQueueMode.the-variants.{Passthrough, SortedQueue}
-use Rattle.config.specs.declared.Settings.{Settings}
 use Rattle.config.specs.declared.NackTimings.{NackTimings}
-use Rattle.config.specs.Timings.{targetDelay}
+use Rattle.config.specs.Delay.{targetDelay}
 use Rattle.handout.specs.Limit.{maxTimestamp}
 use Rattle.handout.specs.Timeout.{timeoutReceive}
 use Rattle.model.specs.declared.LastReceived.{LastReceived}
@@ -22,8 +23,8 @@ use Rattle.model.specs.declared.LastReceived.the-variants as LastReceive
 use Rattle.model.specs.declared.Counters.{Counters}
 use Rattle.model.specs.declared.Queue.{Queue}
 use Rattle.model.specs.Lists.{keep}
-use Rattle.model.specs.Records.{Entry, Gap, State, withClock, withReturned, withCounters, withLoss}
-use Rattle.model.specs.Rules.{timingsIn, dueAt, due, nackDue, truncated, rememberedAfter, givenUp, notGivenUp, lostBelow, leftFrom}
+use Rattle.model.specs.Records.{Entry, Gap, State, gapNumbers, withClock, withReturned, withCounters, withLoss}
+use Rattle.model.specs.Rules.{estimateIn, timingsIn, dueAt, due, nackDue, truncated, rememberedAfter, givenUp, notGivenUp, lostBelow, leftFrom}
 
 unfoldable pub countLost : ℕ → Counters → Counters
 countLost n c = record { dropped = c .dropped; received = c .received; bytes = c .bytes; lost = c .lost + n }
@@ -48,16 +49,23 @@ drained now s =
 
 -- ---- `poll`
 
+-- the round trip estimate, which a session without RTX has not
+abbrev pub estimateOf : Queue → OptRtt
+estimateOf q = estimateIn (q .config .senders .«has_rtx») (q .rtx .rtt)
+
+-- how long a packet is kept: what the limit, the timeout and the answer have
+unfoldable pub delayOf : Queue → ℕ
+delayOf q = targetDelay (q .config .settings) (q .jitter) (q .loss) (estimateOf q)
+
 -- whether the limit has reached the timestamp; there is none where it is negative: "a negative limit hands out nothing"
-unfoldable pub readyIn : RtpInboundQueueMode → Settings → LastReceived → (now timestamp : ℕ) → Bool
-readyIn Passthrough set last now timestamp = true
-readyIn SortedQueue set LastReceived.None now timestamp = false
-readyIn SortedQueue set (LastReceived.Some r) now timestamp =
-    atMost timestamp (maxTimestamp (r .instant) (r .timestamp .0) (set .«clock_rate») (targetDelay set) now)
+unfoldable pub readyIn : RtpInboundQueueMode → (rate delay : ℕ) → LastReceived → (now timestamp : ℕ) → Bool
+readyIn Passthrough rate delay last now timestamp = true
+readyIn (SortedQueue sorted) rate delay LastReceived.None now timestamp = false
+readyIn (SortedQueue sorted) rate delay (LastReceived.Some r) now timestamp = atMost timestamp (maxTimestamp (r .instant) (r .timestamp .0) rate delay now)
 
 -- whether an entry of the timestamp goes out where it is the front one
 abbrev pub ready : Queue → (now timestamp : ℕ) → Bool
-ready q now timestamp = readyIn (q .config .settings .mode) (q .config .settings) (q .last) now timestamp
+ready q now timestamp = readyIn (q .config .settings .mode) (q .config .settings .«clock_rate») (delayOf q) (q .last) now timestamp
 
 -- whether the front entry goes out
 unfoldable pub handsOut : ℕ → Queue → List Entry → Bool
@@ -106,6 +114,10 @@ dueGaps now q gaps = keep (due (timingsOf q) now) (notGivenUp (q .config .settin
 unfoldable pub nackNumbers : ℕ → State → List ℕ
 nackNumbers now s = map truncated (dueGaps now (s .queue) (s .gaps))
 
+-- 02, point 1: "writes the due numbers as RFC 4585 generic NACK entries"
+unfoldable pub nackEntries : ℕ → State → List ℕ
+nackEntries now s = Wire.entries (gapNumbers (dueGaps now (s .queue) (s .gaps)))
+
 unfoldable pub nackAll : ℕ → State → State
 nackAll now s =
     record { queue = s .queue; entries = s .entries; gaps = nackDue (timingsOf (s .queue)) now (s .gaps); remembered = s .remembered }
@@ -115,13 +127,15 @@ afterPollNack now s = nackAll now (drained now s)
 
 -- ---- calls that leave the session as it is
 
-unfoldable pub receiveTimeout : RtpInboundQueueMode → Settings → LastReceived → List Entry → ℕ → Opt
-receiveTimeout Passthrough set last [] now = None
-receiveTimeout Passthrough set last (e ∷ es) now = Some 0
-receiveTimeout SortedQueue set LastReceived.None l now = None
-receiveTimeout SortedQueue set (LastReceived.Some r) [] now = None
-receiveTimeout SortedQueue set (LastReceived.Some r) (e ∷ es) now =
-    Some (timeoutReceive (r .instant) (r .timestamp .0) (e .timestamp) (set .«clock_rate») (targetDelay set) now)
+unfoldable pub timeoutIn : RtpInboundQueueMode → (rate delay : ℕ) → LastReceived → List Entry → ℕ → Opt
+timeoutIn Passthrough rate delay last [] now = None
+timeoutIn Passthrough rate delay last (e ∷ es) now = Some 0
+timeoutIn (SortedQueue sorted) rate delay LastReceived.None l now = None
+timeoutIn (SortedQueue sorted) rate delay (LastReceived.Some r) [] now = None
+timeoutIn (SortedQueue sorted) rate delay (LastReceived.Some r) (e ∷ es) now = Some (timeoutReceive (r .instant) (r .timestamp .0) (e .timestamp) rate delay now)
+
+abbrev pub receiveTimeout : Queue → List Entry → ℕ → Opt
+receiveTimeout q l now = timeoutIn (q .config .settings .mode) (q .config .settings .«clock_rate») (delayOf q) (q .last) l now
 
 -- 001, "the next time": the least that is left until a gap is due
 unfoldable pub nackTimeout : NackTimings → ℕ → List Gap → Opt

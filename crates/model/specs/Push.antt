@@ -30,7 +30,7 @@ use Rattle.model.specs.Rules.{extended, is, without, gapsFrom, Place, fi
 -- in sorted mode the last returned
 unfoldable pub passedOf : RtpInboundQueueMode → Opt → Opt
 passedOf Passthrough returned = None
-passedOf SortedQueue returned = returned
+passedOf (SortedQueue sorted) returned = returned
 
 -- "in sorted mode nothing at or below the last returned number is" queued
 unfoldable pub passed : RtpInboundQueueMode → Opt → ℕ → Bool

@@ -201,11 +201,11 @@ overfull set n = ltb (set .«max_entries») n
 -- "In `Passthrough`, the leading gaps NACKed at least max times become lost, first thing in every `poll_nack` and `poll`"
 unfoldable pub givenUpIn : RtpInboundQueueMode → Settings → List Gap → List Gap
 givenUpIn Passthrough set l = leading (tried (set .«max_nack_attempts»)) l
-givenUpIn SortedQueue set l = []
+givenUpIn (SortedQueue sorted) set l = []
 
 unfoldable pub notGivenUpIn : RtpInboundQueueMode → Settings → List Gap → List Gap
 notGivenUpIn Passthrough set l = trailing (tried (set .«max_nack_attempts»)) l
-notGivenUpIn SortedQueue set l = l
+notGivenUpIn (SortedQueue sorted) set l = l
 
 abbrev pub givenUp : Settings → List Gap → List Gap
 givenUp set l = givenUpIn (set .mode) set l
@@ -216,8 +216,8 @@ notGivenUp set l = notGivenUpIn (set .mode) set l
 -- "Gaps below the one handed out become lost" in sorted mode
 unfoldable pub lostBelow : RtpInboundQueueMode → ℕ → List Gap → List Gap
 lostBelow Passthrough n l = []
-lostBelow SortedQueue n l = gapsBelow n l
+lostBelow (SortedQueue sorted) n l = gapsBelow n l
 
 unfoldable pub leftFrom : RtpInboundQueueMode → ℕ → List Gap → List Gap
 leftFrom Passthrough n l = l
-leftFrom SortedQueue n l = gapsFrom n l
+leftFrom (SortedQueue sorted) n l = gapsFrom n l

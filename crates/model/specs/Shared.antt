@@ -8,6 +8,7 @@ use lib.Dec.{T, leb, ltb}
 use lib.ListN.{length}
 use Rattle.rtp.specs.declared.opt.Opt.the-variants.{Some}
 use Rattle.config.specs.declared.RtpInboundQueueMode.{RtpInboundQueueMode}
+use Rattle.config.specs.declared.RtpInboundStreamSortedQueueMode.{RtpInboundStreamSortedQueueMode}
 use Rattle.config.specs.declared.RtpInboundQueueMode.the-variants.{Passthrough, SortedQueue}
 use Rattle.config.specs.declared.Settings.{Settings}
 use Rattle.model.specs.Lists.{following, keep, every?}
@@ -32,14 +33,14 @@ pub record SharedRules : Type 0 where
   -- "a larger one clears every gap and opens none": from 1,001 on
   pub clears : (now h s : ℕ) (l : List Gap) → LONGEST-STEP < s → stepped now h s l ≡ []
   -- "Gaps below the one handed out become lost", those below w and no other, in sorted mode alone
-  pub lost-below : (w : ℕ) (l : List Gap) → T (every? (λ (g : Gap). ltb (g .number) w) (lostBelow SortedQueue w l))
-  pub left-from : (w : ℕ) (l : List Gap) → T (every? (λ (g : Gap). leb w (g .number)) (leftFrom SortedQueue w l))
+  pub lost-below : (sorted : RtpInboundStreamSortedQueueMode) (w : ℕ) (l : List Gap) → T (every? (λ (g : Gap). ltb (g .number) w) (lostBelow (SortedQueue sorted) w l))
+  pub left-from : (sorted : RtpInboundStreamSortedQueueMode) (w : ℕ) (l : List Gap) → T (every? (λ (g : Gap). leb w (g .number)) (leftFrom (SortedQueue sorted) w l))
   pub none-below : (w : ℕ) (l : List Gap) → (lostBelow Passthrough w l ≡ []) × (leftFrom Passthrough w l ≡ l)
   -- "In `Passthrough`, the leading gaps NACKed at least max times become lost", up to the first that was NACKed fewer times, there alone
   pub given-up : (set : Settings) (l : List Gap) → T (every? (λ (g : Gap). leb (set .«max_nack_attempts») (g .nacks)) (givenUpIn Passthrough set l))
   pub first-left : (set : Settings) (l : List Gap) (g : Gap) (gs : List Gap) → notGivenUpIn Passthrough set l ≡ g ∷ gs → g .nacks < set .«max_nack_attempts»
   pub in-two : (set : Settings) (l : List Gap) → givenUpIn Passthrough set l ++ notGivenUpIn Passthrough set l ≡ l
-  pub none-given-up : (set : Settings) (l : List Gap) → (givenUpIn SortedQueue set l ≡ []) × (notGivenUpIn SortedQueue set l ≡ l)
+  pub none-given-up : (sorted : RtpInboundStreamSortedQueueMode) (set : Settings) (l : List Gap) → (givenUpIn (SortedQueue sorted) set l ≡ []) × (notGivenUpIn (SortedQueue sorted) set l ≡ l)
   -- "up to 1,024 lost numbers NACKed just once are remembered": each, while there is room, and never more
   pub remembered : (rtx : Bool) (lost : List Gap) (l : List Remembered) → length l ≤ MOST-REMEMBERED → length (rememberedAfter rtx lost l) ≤ MOST-REMEMBERED
   pub all-remembered : (lost : List Gap) (l : List Remembered) → length l + length (keep once lost) ≤ MOST-REMEMBERED

@@ -1,13 +1,14 @@
 -- 01, "Where a call is turned back": the number of the first check that catches a call, or 0. "Checks run downwards within a call."
 use mathlib.Core.Bool.{Bool, true, false, cond, _&&_, _||_, not}
 use mathlib.Core.List.{List, [], _∷_, _++_}
-use Prim.Native.Nat.{ℕ, suc, _+_, _-_}
+use Prim.Native.Nat.{ℕ, suc, _+_, _-_, _*_}
 use lib.Dec.{leb, ltb}
 use lib.ListN.{length}
 use Rattle.refusals.specs.Refusals.{SETTINGS, CLOCK, NO-RTX, NO-MEDIA, GAPS-FULL, ENTRIES-FULL, COUNT, OUTPUT, SESSION, refuseIf, orElse}
 use Rattle.durations.specs.Seconds.{largest}
 use Rattle.config.specs.declared.Settings.{Settings}
 use Rattle.config.specs.Valid.{settingsValid, sendersValid}
+use Rattle.nack_pairs.specs.Wire.{ENTRY-BYTES}
 use Rattle.rtp_packet.specs.Header.{payloadOf}
 use Rattle.rtp_packet.specs.Datagram.{LARGEST-PAYLOAD, LARGEST-REPAIR, datagramRefusal}
 use Rattle.rtp_packet.specs.Original.{originalRefusal}
@@ -24,7 +25,7 @@ use Rattle.model.specs.Push.{mediaEntry, mediaPlace, Fate, tooLate, reco
 use Rattle.model.specs.Poll.{drained, goingOut, lostUnder, dueGaps}
 use Rattle.model.specs.Valid.{sound}
 use Rattle.model.specs.Storage.{Storage, Stored, lengthsFit, entryPlaces, parse}
-use Rattle.model.specs.Calls.{Call, media, repair, poll, pollNack, timeoutReceive, timeoutNack, rtxStats, highestReceived}
+use Rattle.model.specs.Calls.{Call, media, repair, poll, pollNack, nackWire, timeoutReceive, timeoutNack, rtxStats, highestReceived}
 
 -- 1
 unfoldable pub configValid : Config → Bool
@@ -135,7 +136,7 @@ repairRefusal now d s =
     (orElse (datagramRefusal (q .config .senders .«rtx_pt») (q .config .senders .«rtx_ssrc» .0) LARGEST-REPAIR d)
     (orElse (originalNumberRefusal q (payloadOf d)) (refusalFor e (repairFate s (e .number)) s))))
 
--- ---- `poll` and `poll_nack`
+-- ---- `poll` and `poll_nack`, in a list or on the wire
 
 -- the gaps that become lost as the entry at the front of the list goes out, if there is one: those given up, and those below it
 unfoldable pub lostWith : ℕ → State → List Entry → List Gap
@@ -154,9 +155,9 @@ nacksRefusal now q gaps =
     let set = q .config .settings in
     orElse (countRefusal ((q .counters .lost + length (givenUp set gaps)) ∷ [])) (nackCountRefusal (dueGaps now q gaps))
 
-unfoldable pub pollNackRefusal : ℕ → List ℕ → State → ℕ
-pollNackRefusal now out s =
-    orElse (outputRefusal (s .queue .config .settings .«max_gaps») (length out)) (orElse (clockRefusal (s .queue) now) (nacksRefusal now (s .queue) (s .gaps)))
+-- 15, 8, then 14, with an output of so many places, where so many are needed
+unfoldable pub pollNackRefusal : (needed places now : ℕ) → Queue → List Gap → ℕ
+pollNackRefusal needed places now q gaps = orElse (outputRefusal needed places) (orElse (clockRefusal q now) (nacksRefusal now q gaps))
 
 -- ---- any call
 
@@ -164,7 +165,9 @@ unfoldable pub callRefusal : Call → State → ℕ
 callRefusal (media now d) s = mediaRefusal now d s
 callRefusal (repair now d) s = repairRefusal now d s
 callRefusal (poll now out) s = pollRefusal now out s
-callRefusal (pollNack now out) s = pollNackRefusal now out s
+callRefusal (pollNack now out) s = pollNackRefusal (s .queue .config .settings .«max_gaps») (length out) now (s .queue) (s .gaps)
+-- 02, point 1: "15 also covers an output under 4 · G bytes"
+callRefusal (nackWire now out) s = pollNackRefusal (ENTRY-BYTES * s .queue .config .settings .«max_gaps») (length out) now (s .queue) (s .gaps)
 callRefusal (timeoutReceive now) s = clockRefusal (s .queue) now
 callRefusal (timeoutNack now) s = clockRefusal (s .queue) now
 callRefusal rtxStats s = 0

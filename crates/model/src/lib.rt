@@ -1,7 +1,9 @@
 // The records of the queue (000) as they go in and come back by value, beside the storage that the caller lends. No code: specs/
 // holds what the queue is, for the contracts and for the theorem over every list of calls alike.
 ghost use Rattle.model.specs.Across.{FlippedAcross};
+ghost use Rattle.model.specs.Delay.{JitterAlone};
 ghost use Rattle.model.specs.Flipped.{FlippedBit};
+ghost use Rattle.model.specs.OnTheWire.{OnTheWire};
 ghost use Rattle.model.specs.Shared.{SharedRules};
 ghost use Rattle.model.specs.StaysSound.{StaysSound};
 ghost use Rattle.model.specs.Unaltered.{Unaltered};
@@ -66,6 +68,11 @@ pub fn stays_sound()
     ensures { λ r. ⌜ StaysSound ⌝ }
 {}
 
+// The call on the wire has the effect of `poll_nack`, and what it writes reads back as the numbers that `poll_nack` would have written.
+pub fn on_the_wire()
+    ensures { λ r. ⌜ OnTheWire ⌝ }
+{}
+
 // A media packet or repair that the session would have taken is refused where one bit of version, payload type or sender is turned over, and
 // nothing is altered.
 pub fn flipped_bit()
@@ -85,4 +92,9 @@ pub fn unaltered()
 // The rules that queue and book share, held to 01's numbers without the one or the other.
 pub fn shared_rules()
     ensures { λ r. ⌜ SharedRules ⌝ }
+{}
+
+// Without RTX, or without an estimate, the delay rests on the jitter alone (02, point 7).
+pub fn jitter_alone()
+    ensures { λ r. ⌜ JitterAlone ⌝ }
 {}

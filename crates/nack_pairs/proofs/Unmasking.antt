@@ -6,20 +6,23 @@ use mathlib.Core.List.{List, [], _∷_, _++_, map}
 use Prim.Native.Nat.{ℕ, suc, _+_, _-_, _*_, _/_, _%_, _≤_, _<_}
 use native.Mathlib.Omega.{arith}
 use lib.Dec.{ltb, eqb}
-use lib.ListN.{length, take, drop, getD, set, length-append, length-drop, drop-of-length-le}
+use lib.ListN.{length, take, drop, getD, set, length-append, length-map, length-drop, drop-of-length-le}
 use lib.Seq.{drop-drop, getD-drop, take-add, take-all, take-append-seam, drop-append-seam, drop-cons, length-take-le}
 use borrow.Author.Tests.{eq-eqb, ne-eqb, lt-ltb, le-ltb}
+use Rattle.words.specs.Order.{ascends}
 use Rattle.words.specs.Words.{over, written}
 use Rattle.words.proofs.Loops.{Writing, writing-more}
 use Rattle.words.proofs.Over.{over-nil, length-over}
 use Rattle.words.proofs.Moves.{written-next}
 use Rattle.rtp.specs.Numbers.{lowBits}
 use Rattle.refusals.specs.Refusals.{refuseIf, orElse}
-use Rattle.nack_pairs.specs.Pairs.{putIf, marked, named}
+use Rattle.nack_pairs.specs.Pairs.{pairs, putIf, marked, named}
+use Rattle.nack_pairs.specs.Wire.{entries}
 use Rattle.nack_pairs.specs.Reader.{named16, numbersIn, readRefusal, readAnswer, listAfter}
 use Rattle.nack_pairs.specs.declared.read.ReadAnswer.{ReadAnswer}
 use Rattle.nack_pairs.specs.declared.read.ReadAnswer.the-variants.{Numbers, Refused}
-use Rattle.nack_pairs.proofs.Back.{length-named16}
+use Rattle.nack_pairs.proofs.Back.{length-named16, entries-back}
+use Rattle.nack_pairs.proofs.Writing.{length-wire}
 
 -- the first of what is left
 record Head (q : List ℕ) (i v : ℕ) (r : List ℕ) : Type 0 where
@@ -199,3 +202,15 @@ module _ (bytes list : List ℕ) where
     pub was-read : length bytes % 4 ≡ 0 → (count : ℕ) (after : List ℕ) → count ≡ length (numbersIn bytes) → after ≡ over (numbersIn bytes) list → Answered (Numbers count) after
     unfolding readAnswer listAfter readRefusal refuseIf orElse
     was-read e count after a b = record { told = rw (enough, eq-eqb (length bytes % 4) 0 e, a); kept = rw (enough, eq-eqb (length bytes % 4) 0 e) b }
+
+-- ---- what the writer makes, the reader takes
+
+pub entries-taken : (xs list : List ℕ) → ascends xs ≡ true → 17 * length (pairs xs) ≤ length list
+    → (readAnswer (entries xs) (length list) ≡ Numbers (length xs)) × (listAfter (entries xs) list ≡ over (map (lowBits 16) xs) list)
+unfolding entries
+entries-taken xs list a h =
+    let l = length-wire (pairs xs) in
+    let b = entries-back xs a in
+    let n : length xs ≡ length (numbersIn (entries xs)) = sym (ap length b ∙ length-map xs (lowBits 16)) in
+    let r = was-read (entries xs) list (omega arith) (omega arith) (length xs) _ n refl in
+    (sym (r .told), sym (r .kept) ∙ ap (λ (q : List ℕ). over q list) b)

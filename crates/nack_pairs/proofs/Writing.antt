@@ -63,7 +63,7 @@ unfolding wire
 wire-append [] qs = refl
 wire-append (p ∷ ps) qs = rw (wire-append ps qs, append-assoc)
 
-length-wire : (ps : List Pair) → length (wire ps) ≡ 4 * length ps
+pub length-wire : (ps : List Pair) → length (wire ps) ≡ 4 * length ps
 unfolding wire bytesOf
 length-wire [] = refl
 length-wire (p ∷ ps) = let i = length-wire ps in omega arith

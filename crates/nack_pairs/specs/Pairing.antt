@@ -5,10 +5,12 @@ use mathlib.Core.List.{List, [], _∷_, map}
 use Prim.Native.Nat.{ℕ, _+_, _*_, _≤_, _<_}
 use lib.ListN.{length}
 use Rattle.words.specs.Order.{ascends}
+use Rattle.words.specs.Words.{over}
 use Rattle.nack_pairs.specs.Pairs.{Pair, pairs, namedBy, member}
 use Rattle.rtp.specs.Numbers.{lowBits}
 use Rattle.nack_pairs.specs.Wire.{ENTRY-BYTES, NUMBERS, entries}
-use Rattle.nack_pairs.specs.Reader.{numbersIn}
+use Rattle.nack_pairs.specs.Reader.{numbersIn, readAnswer, listAfter}
+use Rattle.nack_pairs.specs.declared.read.ReadAnswer.the-variants.{Numbers}
 
 -- each pair begins past the sixteen of every pair before it
 unfoldable pub Beyond : ℕ → List Pair → Type 0
@@ -29,6 +31,9 @@ pub record Pairing : Type 0 where
   pub shortest : (xs : List ℕ) → ascends xs ≡ true → (ps : List Pair) → ((x : ℕ) → member x (namedBy ps) ≡ member x xs) → length (pairs xs) ≤ length ps
   -- "reading back yields the 16-bit numbers in order"
   pub readBack : (xs : List ℕ) → ascends xs ≡ true → numbersIn (entries xs) ≡ map (lowBits 16) xs
+  -- so does the reader, in a list that has room: it takes the entries of every ascending list of numbers
+  pub taken : (xs list : List ℕ) → ascends xs ≡ true → NUMBERS * length (pairs xs) ≤ length list
+      → (readAnswer (entries xs) (length list) ≡ Numbers (length xs)) × (listAfter (entries xs) list ≡ over (map (lowBits 16) xs) list)
   -- the list that the reader asks for is never too short
   pub room : (bytes : List ℕ) (k : ℕ) → length bytes < ENTRY-BYTES * k + ENTRY-BYTES → length (numbersIn bytes) ≤ NUMBERS * k
   -- across 65,535: the next and the sixteenth number after 65,535 are in its mask, the seventeenth begins a pair

@@ -43,7 +43,7 @@ fn passed_of(mode: RtpInboundQueueMode, returned: OptNumber) -> OptNumber
 {
     match mode {
         RtpInboundQueueMode::Passthrough => OptNumber::None,
-        RtpInboundQueueMode::SortedQueue => returned,
+        RtpInboundQueueMode::SortedQueue(_) => returned,
     }
 }
 

@@ -9,11 +9,16 @@ use Rattle.words.specs.Blocks.{laid}
 use Rattle.words.specs.Order.{ascends}
 use Rattle.words.proofs.Lists.{map-drop}
 use Rattle.words.proofs.Ordered.{ascends-drop}
+use Rattle.packet_loss.specs.Loss.{recordLost}
 use Rattle.config.specs.declared.Settings.{Settings}
+use Rattle.config.specs.declared.RtpInboundQueueMode.{RtpInboundQueueMode}
+use Rattle.config.specs.declared.RtpInboundQueueMode.the-variants.{Passthrough, SortedQueue}
+use Rattle.config.specs.Delay.{delayIn}
+use Rattle.model.specs.declared.Queue.{Queue}
 use Rattle.model.specs.declared.Session.{Session}
 use Rattle.model.specs.Records.{Gap, gapNumbers}
-use Rattle.model.specs.Rules.{givenUp, notGivenUp}
-use Rattle.model.specs.Poll.{countLost, lose, drained}
+use Rattle.model.specs.Rules.{givenUp, givenUpIn, notGivenUp}
+use Rattle.model.specs.Poll.{countLost, estimateOf, delayOf, lose, drainedQueue, drained}
 use Rattle.model.specs.Storage.{Stored, GAP-WORDS, gapWords, gapsOf, parse, write}
 use Rattle.model.proofs.Laid.{length-entriesOf, length-gapsOf, length-rememberedOf, parse-write}
 use Rattle.model.proofs.SoundCalls.{payloads-fit}
@@ -26,6 +31,16 @@ use Rattle.storage.proofs.Checking.{Lengths}
 use Rattle.storage.proofs.Settled.{holding}
 use Rattle.poll.proofs.Holding.{leaves-write, lost-in}
 use Rattle.poll.proofs.Parted.{given-up-le, not-given-up, length-not-given-up}
+
+-- numbers are given up where there is no delay, so that the loss that they count for does not change it
+pub delay-drained : (now : ℕ) (q : Queue) (gaps : List Gap) → delayOf (drainedQueue now q gaps) ≡ delayOf q
+unfolding delayOf lose givenUpIn recordLost delayIn
+delay-drained now q gaps = go (q .config .settings .mode)
+  where
+    go : (m : RtpInboundQueueMode)
+        → delayIn m (q .config .settings) (q .jitter) (recordLost (q .loss) (length (givenUpIn m (q .config .settings) gaps))) (estimateOf q) ≡ delayIn m (q .config .settings) (q .jitter) (q .loss) (estimateOf q)
+    go Passthrough = refl
+    go (SortedQueue sorted) = refl
 
 -- the gaps that stay, in the slice that `drain` leaves
 module _ (s : Session) (old g : List ℕ) (room : GAP-WORDS * s .gaps ≤ length old)

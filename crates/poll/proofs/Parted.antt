@@ -26,12 +26,12 @@ module _ (set : Settings) where
   pub given-up-le : (mode : RtpInboundQueueMode) (l : List Gap) → length (givenUpIn mode set l) ≤ length l
   unfolding givenUpIn
   given-up-le Passthrough l = let f = leading-front (tried (set .«max_nack_attempts»)) l in omega (arith, ap length (f .0), length-take (length (leading (tried (set .«max_nack_attempts»)) l)) l)
-  given-up-le SortedQueue l = omega arith
+  given-up-le (SortedQueue sorted) l = omega arith
 
   pub not-given-up : (mode : RtpInboundQueueMode) (l : List Gap) → notGivenUpIn mode set l ≡ drop (length (givenUpIn mode set l)) l
   unfolding givenUpIn notGivenUpIn
   not-given-up Passthrough l = leading-front (tried (set .«max_nack_attempts»)) l .1
-  not-given-up SortedQueue l = refl
+  not-given-up (SortedQueue sorted) l = refl
 
   pub length-not-given-up : (mode : RtpInboundQueueMode) (l : List Gap) → length (notGivenUpIn mode set l) ≡ length l - length (givenUpIn mode set l)
   length-not-given-up mode l = ap length (not-given-up mode l) ∙ length-drop (length (givenUpIn mode set l)) l
@@ -45,12 +45,12 @@ module _ (x : ℕ) (l : List Gap) (a : ascends (gapNumbers l) ≡ true) where
   pub lost-front : (mode : RtpInboundQueueMode) → take (length (lostBelow mode x l)) l ≡ lostBelow mode x l
   unfolding lostBelow
   lost-front Passthrough = refl
-  lost-front SortedQueue = sym (below-parts x l a .0)
+  lost-front (SortedQueue sorted) = sym (below-parts x l a .0)
 
   pub left-front : (mode : RtpInboundQueueMode) → drop (length (lostBelow mode x l)) l ≡ leftFrom mode x l
   unfolding lostBelow leftFrom
   left-front Passthrough = refl
-  left-front SortedQueue = sym (below-parts x l a .1)
+  left-front (SortedQueue sorted) = sym (below-parts x l a .1)
 
   pub lost-le : (mode : RtpInboundQueueMode) → length (lostBelow mode x l) ≤ length l
   lost-le mode = omega (arith, ap length (lost-front mode), length-take (length (lostBelow mode x l)) l)

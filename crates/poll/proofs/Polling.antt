@@ -13,11 +13,13 @@ use Rattle.words.proofs.Over.{over-nil}
 use Rattle.durations.specs.Seconds.{largest}
 use Rattle.refusals.specs.Refusals.{orElse}
 use Rattle.rtp_packet.specs.Datagram.{LARGEST-PAYLOAD}
+use Rattle.packet_loss.specs.Loss.{lossInRange}
+use Rattle.rtx_state.specs.RoundTrip.{optRttInRange}
 use Rattle.config.specs.Valid.{settingsValid}
 use Rattle.model.specs.declared.Session.{Session}
 use Rattle.model.specs.Records.{Entry, gapNumbers}
 use Rattle.model.specs.Rules.{givenUp, notGivenUp}
-use Rattle.model.specs.Poll.{lose, drained, handsOut, goingOut, lostUnder, handOut, afterPoll}
+use Rattle.model.specs.Poll.{delayOf, lose, drained, handsOut, goingOut, lostUnder, handOut, afterPoll}
 use Rattle.model.specs.Valid.{lastSound}
 use Rattle.model.specs.Storage.{Stored, ENTRY-WORDS, PAYLOAD-BYTES, GAP-WORDS, entryOf, entriesOf, gapsOf, gapWords, parse, write}
 use Rattle.model.specs.Calls.{Answer, poll, nothing, refused, taken, answered, outputOf, outputAfter, handed, packetOf, payloadOut}
@@ -32,7 +34,7 @@ use Rattle.poll.specs.declared.Effect.{Effect}
 use Rattle.poll.specs.Steps.{Handing, Leaves, effectFor, drainedSession}
 use Rattle.poll.proofs.Early.{earlyRefusal, is-sound, is-room, is-timely, early-refused, late-refused, goes-on}
 use Rattle.poll.proofs.Holding.{leaves-write, lost-in}
-use Rattle.poll.proofs.Drained.{gaps-left, drained-lengths, drained-written, drained-parsed, drained-handing}
+use Rattle.poll.proofs.Drained.{delay-drained, gaps-left, drained-lengths, drained-written, drained-parsed, drained-handing}
 use Rattle.poll.proofs.Fronts.{front-is, first-is, hands-some}
 use Rattle.poll.proofs.Losing.{due-counts, due-few}
 
@@ -105,9 +107,18 @@ module _ (now : ℕ) (m : Stored) (h : Settled m) (due : Effect) (ed : due ≡ e
       unfolding handOut drained lose parse
       handed-written m′ l = leaves-write (after .storage) (handOut (firstOf m ∷ []) (drained now (parse m))) (drained-lengths now m h g eg) m′ l
 
+      -- and so is the delay
+      same-delay : delayOf (s .queue) ≡ delayOf (m .session .queue)
+      unfolding drainedSession
+      same-delay = rw es (delay-drained now (m .session .queue) (gapsOf (m .storage .gaps) (m .session .gaps)))
+
+      pub is-delay : due .delay ≡ delayOf (s .queue)
+      unfolding effectFor parse
+      is-delay = ap (λ (d : Effect). d .delay) ed ∙ sym same-delay
+
       same-answer : handed (s .queue) (firstOf m ∷ []) ≡ handed (m .session .queue) (firstOf m ∷ [])
       unfolding handed packetOf drainedSession lose
-      same-answer = rw es
+      same-answer = rw (same-delay, es)
 
       pub packet-out : (a : Answer) (m′ : Stored) (o : List ℕ)
           → Leaves (handOut (take 1 (entriesOf (m .storage .entries) (m .storage .payloads) (s .entries))) (parse after)) (after .storage) m′
@@ -144,11 +155,12 @@ module _ (now : ℕ) (m : Stored) (out : List ℕ) where
 
       pub poll-counted : ((ENTRY-WORDS * m .session .entries ≤ length (m .storage .entries)) × (GAP-WORDS * m .session .gaps ≤ length (m .storage .gaps)))
           × ((ascends (gapNumbers (gapsOf (m .storage .gaps) (m .session .gaps))) ≡ true)
-          × (((m .session .queue .clock ≤ now) × (now ≤ largest)) × (T (settingsValid (m .session .queue .config .settings)) × T (lastSound (m .session .queue .clock) (m .session .queue .last)))))
+          × (((m .session .queue .clock ≤ now) × (now ≤ largest)) × ((T (settingsValid (m .session .queue .config .settings)) × T (lastSound (m .session .queue .clock) (m .session .queue .last)))
+          × (T (lossInRange (m .session .queue .loss)) × T (optRttInRange (m .session .queue .rtx .rtt))))))
       unfolding parse
       poll-counted =
           let k = checked m poll-sound in
-          ((k .room .entries, k .room .gaps), (k .lists .gaps-ascend, (is-timely m LARGEST-PAYLOAD now out r e z, (settings-in m k, last-in m k))))
+          ((k .room .entries, k .room .gaps), (k .lists .gaps-ascend, (is-timely m LARGEST-PAYLOAD now out r e z, ((settings-in m k, last-in m k), (k .sound .queue-in .loss-in, k .sound .queue-in .rtx-in .rtt-in)))))
 
       module _ (due : Effect) (ed : due ≡ effectFor now (parse m)) where
         pub poll-fits : m .session .queue .counters .lost + (due .given + due .lost) < 2 ^ 64

@@ -6,6 +6,8 @@ use Rattle.poll.specs.declared.PollAnswer.{PollAnswer}
 use Rattle.poll.specs.declared.PollAnswer.the-variants as PollAnswer
 use Rattle.poll.specs.declared.nack.NackAnswer.{NackAnswer}
 use Rattle.poll.specs.declared.nack.NackAnswer.the-variants as NackAnswer
+use Rattle.poll.specs.declared.wire.WireAnswer.{WireAnswer}
+use Rattle.poll.specs.declared.wire.WireAnswer.the-variants as WireAnswer
 
 unfoldable pub packetOf : HandedOut → Packet
 packetOf h =
@@ -21,3 +23,7 @@ unfoldable pub nackAnswer : NackAnswer → Answer
 nackAnswer NackAnswer.Nothing = Calls.nothing
 nackAnswer (NackAnswer.Numbers n) = Calls.nack n
 nackAnswer (NackAnswer.Refused k) = Calls.refused k
+
+unfoldable pub wireAnswer : WireAnswer → Answer
+wireAnswer (WireAnswer.Bytes n) = Calls.wire n
+wireAnswer (WireAnswer.Refused k) = Calls.refused k

@@ -1,19 +1,17 @@
 -- What the steps of `poll` and `poll_nack` find in storage and leave there.
 use mathlib.Core.Path.{_≡_}
-use mathlib.Core.Bool.{true, false}
+use mathlib.Core.Bool.{true}
 use mathlib.Core.List.{List}
 use Prim.Native.Nat.{ℕ, _+_, _*_, _≤_, _<_, _^_}
 use lib.ListN.{length}
 use Rattle.words.specs.Blocks.{laid}
 use Rattle.words.specs.Order.{ascends}
-use Rattle.config.specs.declared.NackTimings.{NackTimings}
 use Rattle.model.specs.declared.Session.{Session}
 use Rattle.model.specs.Records.{Gap, State, gapNumbers}
-use Rattle.model.specs.Rules.{MAX-LOST-NACKED, full, givenUp, notGivenUp}
-use Rattle.model.specs.Lists.{some?, every?}
-use Rattle.model.specs.Poll.{drainedQueue, drained, handsOut, goingOut, lostUnder, timingsOf, dueGaps}
+use Rattle.model.specs.Rules.{MAX-LOST-NACKED, givenUp, notGivenUp}
+use Rattle.model.specs.Poll.{delayOf, drainedQueue, drained, handsOut, goingOut, lostUnder}
 use Rattle.model.specs.Storage.{Storage, Stored, REMEMBERED-WORDS, entryWords, payloadBytes, gapWords, rememberedWords, gapsOf, write}
-use Rattle.packet_gaps.specs.Gaps.{GapsIn, instantsFit, Small}
+use Rattle.packet_gaps.specs.Gaps.{GapsIn}
 use Rattle.entries.specs.Entries.{EntriesIn}
 use Rattle.lost_nacked.specs.Remembered.{RememberedIn}
 use Rattle.poll.specs.declared.Effect.{Effect}
@@ -43,18 +41,8 @@ drainedSession now s gaps =
     let set = s .queue .config .settings in
     record { queue = drainedQueue now (s .queue) gaps; entries = s .entries; gaps = length (notGivenUp set gaps); remembered = s .remembered }
 
--- what `poll` does, by counts: the gaps given up, whether the front entry goes out, and the gaps lost below it
+-- what `poll` does, by counts: the gaps given up, the delay, whether the front entry goes out, and the gaps lost below it
 unfoldable pub effectFor : ℕ → State → Effect
 effectFor now s =
     let set = s .queue .config .settings in
-    record { given = length (givenUp set (s .gaps)); «goes_out» = handsOut now (s .queue) (s .entries); lost = length (lostUnder (set .mode) (goingOut now s (s .entries)) (drained now s .gaps)) }
-
--- each gap can be NACKed that is due by these timings, once the first ones are given up
-pub record Nacking (now : ℕ) (s : Session) (gaps : List ℕ) (given : ℕ) (timings : NackTimings) : Type 0 where
-  pub gaps-in : GapsIn gaps (s .gaps)
-  pub given-are : given ≡ length (givenUp (s .queue .config .settings) (gapsOf gaps (s .gaps)))
-  pub timings-are : timings ≡ timingsOf (s .queue)
-  pub small : Small timings
-  pub lost-fits : s .queue .counters .lost + s .gaps < 2 ^ 64
-  pub instants : every? instantsFit (gapsOf gaps (s .gaps)) ≡ true
-  pub none-full : some? full (dueGaps now (s .queue) (gapsOf gaps (s .gaps))) ≡ false
+    record { given = length (givenUp set (s .gaps)); delay = delayOf (s .queue); «goes_out» = handsOut now (s .queue) (s .entries); lost = length (lostUnder (set .mode) (goingOut now s (s .entries)) (drained now s .gaps)) }

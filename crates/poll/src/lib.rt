@@ -10,10 +10,12 @@ ghost use Rattle.words.specs.Order.{ascends};
 ghost use Rattle.words.specs.Words.{over};
 ghost use Rattle.durations.specs.Seconds.{largest};
 ghost use Rattle.refusals.specs.Refusals.{orElse};
-ghost use Rattle.config.specs.Valid.{settingsValid};
+ghost use Rattle.packet_loss.specs.Loss.{lossInRange};
+ghost use Rattle.rtx_state.specs.RoundTrip.{optRttInRange};
+ghost use Rattle.config.specs.Valid.{longest, settingsValid};
 ghost use Rattle.model.specs.Records.{gapNumbers};
 ghost use Rattle.model.specs.Rules.{MAX-LOST-NACKED, rememberedAfter, givenUp, notGivenUp, lostBelow};
-ghost use Rattle.model.specs.Poll.{handsOut, lostUnder, handOut};
+ghost use Rattle.model.specs.Poll.{delayOf, handsOut, lostUnder, handOut};
 ghost use Rattle.model.specs.Valid.{lastSound};
 ghost use Rattle.model.specs.Storage.{ENTRY-WORDS, PAYLOAD-BYTES, GAP-WORDS, REMEMBERED-WORDS, gapWords, rememberedWords, entriesOf, gapsOf, rememberedOf, parse};
 ghost use Rattle.packet_gaps.specs.Gaps.{GapsIn};
@@ -22,14 +24,13 @@ ghost use Rattle.model.specs.Calls as Calls;
 ghost use Rattle.model.specs.Table as Table;
 ghost use Rattle.model.specs.Table.{outputRefusal, clockRefusal};
 ghost use Rattle.model.specs.Did.{accepted};
-ghost use Rattle.model.specs.Calls.{delayIn, handed, payloadOut};
+ghost use Rattle.model.specs.Calls.{handed, payloadOut};
 ghost use Rattle.entries.specs.Entries.{entry};
 ghost use Rattle.poll.specs.Answers as Answers;
 ghost use Rattle.model.specs.Contract.{stored, lent, before, after, Does};
 ghost use Rattle.storage.specs.Settled.{Settled};
 ghost use Rattle.poll.specs.Steps.{Handing, Leaves, drainedSession, effectFor};
 use config::RtpInboundQueueMode;
-use config::Settings;
 use entries::Entry;
 use model::Queue;
 use model::Session;
@@ -40,6 +41,7 @@ use rtp::Ssrc;
 use rtp::opt::Opt;
 
 pub mod nack;
+pub mod wire;
 
 // A packet as `poll` hands it out: its own fields, the instant it came (none for a repair) and the delay; `size` bytes of the output
 // are its payload.
@@ -65,9 +67,11 @@ pub struct Polled {
     pub session: Session,
 }
 
-// What a `poll` does: how many gaps at the front are given up, whether the front entry goes out, and how many gaps are lost below it.
+// What a `poll` does: how many gaps at the front are given up, how long packets are kept, whether the front entry goes out, and how many
+// gaps are lost below it.
 struct Effect {
     given: usize,
+    delay: u64,
     goes_out: bool,
     lost: usize,
 }
@@ -103,7 +107,7 @@ pub(crate) fn given_up(q: Queue, gaps: &[u64], n: usize) -> usize
         RtpInboundQueueMode::Passthrough => {
             packet_gaps::nacks::count_lost(gaps, n, settings.max_nack_attempts)
         }
-        RtpInboundQueueMode::SortedQueue => 0,
+        RtpInboundQueueMode::SortedQueue(_) => 0,
     }
 }
 
@@ -136,7 +140,7 @@ fn lost_below(q: Queue, gaps: &[u64], n: usize, number: ExtendedSequenceNumber) 
     let mode = settings.mode;
     match mode {
         RtpInboundQueueMode::Passthrough => 0,
-        RtpInboundQueueMode::SortedQueue => packet_gaps::count_below(gaps, n, number),
+        RtpInboundQueueMode::SortedQueue(_) => packet_gaps::count_below(gaps, n, number),
     }
 }
 
@@ -154,10 +158,11 @@ fn remember(q: Queue, remembered: &mut [u64], n: usize, gaps: &[u64], lost: usiz
     n
 }
 
-// Whether the front entry goes out.
-fn goes_out(q: Queue, entries: &[u64], n: usize, instant: u64) -> bool
+// Whether the front entry goes out, by the queue's delay.
+fn goes_out(q: Queue, delay: u64, entries: &[u64], n: usize, instant: u64) -> bool
     requires { ⌜ ENTRY-WORDS * n ≤ length (now entries) ⌝ }
     requires { ⌜ (q .clock ≤ instant) × (instant ≤ largest) ⌝ }
+    requires { ⌜ (delay ≡ delayOf q) × (delay ≤ longest) ⌝ }
     requires { ⌜ T (settingsValid (q .config .settings)) × T (lastSound (q .clock) (q .last)) ⌝ }
     ensures { λ r. ⌜ ((payloads : List ℕ) → r ≡ handsOut instant q (entriesOf (now (entries .entry)) payloads n)) ⌝ }
 {
@@ -165,7 +170,7 @@ fn goes_out(q: Queue, entries: &[u64], n: usize, instant: u64) -> bool
         return false;
     }
     let e = entries::read(entries, 0);
-    session::poll::ready(q, instant, e.timestamp)
+    session::poll::ready(q, delay, instant, e.timestamp)
 }
 
 // What a `poll` at this instant does.
@@ -174,14 +179,17 @@ fn effect_at(s: Session, entries: &[u64], gaps: &[u64], instant: u64) -> Effect
     requires { ⌜ ascends (gapNumbers (gapsOf (now gaps) (s .gaps))) ≡ true ⌝ }
     requires { ⌜ (s .queue .clock ≤ instant) × (instant ≤ largest) ⌝ }
     requires { ⌜ T (settingsValid (s .queue .config .settings)) × T (lastSound (s .queue .clock) (s .queue .last)) ⌝ }
+    requires { ⌜ T (lossInRange (s .queue .loss)) × T (optRttInRange (s .queue .rtx .rtt)) ⌝ }
     ensures { λ r. ⌜ ((payloads remembered : List ℕ) → r ≡ effectFor instant (parse (stored s (now (entries .entry)) payloads (now (gaps .entry)) remembered))) ⌝ }
 {
     let queue = s.queue;
     let given = given_up(queue, gaps, s.gaps);
-    let ready = goes_out(queue, entries, s.entries, instant);
+    let delay = session::poll::target_delay(queue);
+    let ready = goes_out(queue, delay, entries, s.entries, instant);
     if !ready {
         return Effect {
             given,
+            delay,
             goes_out: false,
             lost: 0,
         };
@@ -190,6 +198,7 @@ fn effect_at(s: Session, entries: &[u64], gaps: &[u64], instant: u64) -> Effect
     let lost = lost_below(queue, gaps, s.gaps, first.number);
     Effect {
         given,
+        delay,
         goes_out: true,
         lost,
     }
@@ -203,28 +212,16 @@ fn count_refusal(q: Queue, effect: Effect) -> u64
     session::poll::lost_refusal(q, (effect.given + effect.lost) as u64)
 }
 
-// How long a packet waits.
-fn delay_of(settings: Settings) -> u64
-    ensures { λ r. ⌜ r ≡ delayIn (settings .mode) settings ⌝ }
-{
-    let mode = settings.mode;
-    match mode {
-        RtpInboundQueueMode::Passthrough => 0,
-        RtpInboundQueueMode::SortedQueue => settings.target_delay(),
-    }
-}
-
-fn packet(q: Queue, e: Entry) -> HandedOut
+fn packet(q: Queue, delay: u64, e: Entry) -> HandedOut
+    requires { ⌜ delay ≡ delayOf q ⌝ }
     ensures { λ r. ⌜ ((payload : List ℕ) → length payload ≡ e .size → Answers.packetOf r ≡ Calls.packetOf q (entry e payload)) ⌝ }
 {
     let config = q.config;
     let senders = config.senders;
-    let settings = config.settings;
     let sequence_number = e.number.truncated();
     let timestamp = e.timestamp.truncated();
     let ssrc = senders.ssrc;
     let received_at = e.arrival;
-    let delay = delay_of(settings);
     HandedOut {
         pt: senders.pt,
         sequence_number,
@@ -245,11 +242,13 @@ fn hand_out(
     gaps: &mut [u64],
     remembered: &mut [u64],
     lost: usize,
+    delay: u64,
     out: &mut [u8],
 ) -> Polled
     requires { ⌜ Handing (stored s (now entries) (now payloads) (now gaps) (now remembered)) ⌝ }
     requires { ⌜ PAYLOAD-BYTES ≤ length (now out) ⌝ }
     requires { ⌜ lost ≡ length (lostUnder (s .queue .config .settings .mode) (take 1 (entriesOf (now entries) (now payloads) (s .entries))) (gapsOf (now gaps) (s .gaps))) ⌝ }
+    requires { ⌜ delay ≡ delayOf (s .queue) ⌝ }
     ensures { λ r. ⌜ Leaves (handOut (take 1 (entriesOf (now (entries .entry)) (now (payloads .entry)) (s .entries))) (parse (before entries payloads gaps remembered s))) (lent entries payloads gaps remembered) (after entries payloads gaps remembered (r .session)) ⌝ }
     ensures { λ r. ⌜ Answers.pollAnswer (r .answer) ≡ handed (s .queue) (take 1 (entriesOf (now (entries .entry)) (now (payloads .entry)) (s .entries))) ⌝ }
     ensures { λ r. ⌜ now (out .exit) ≡ over (payloadOut (take 1 (entriesOf (now (entries .entry)) (now (payloads .entry)) (s .entries)))) (now (out .entry)) ⌝ }
@@ -265,7 +264,7 @@ fn hand_out(
         gaps: s.gaps - lost,
         remembered: count,
     };
-    let answer = PollAnswer::Packet(packet(queue, e));
+    let answer = PollAnswer::Packet(packet(queue, delay, e));
     Polled {
         answer,
         session: left,
@@ -302,6 +301,7 @@ fn accept(
         gaps,
         remembered,
         effect.lost,
+        effect.delay,
         out,
     )
 }

@@ -1,31 +1,56 @@
--- `push` once the datagram is read: what becomes of a packet, and what the functions over the lists ask of it.
+-- The steps of `push` after check 16: what `judge` finds of a datagram, and what `apply` and the functions over the lists ask of it.
 use mathlib.Core.Path.{_≡_}
 use mathlib.Core.Bool.{true}
-use mathlib.Core.List.{List, []}
+use mathlib.Core.List.{List}
 use Prim.Native.Nat.{ℕ, _+_, _*_, _-_, _≤_, _<_}
 use lib.ListN.{length}
 use Rattle.model.specs.Lists.{some?}
-use Rattle.model.specs.Records.{Entry}
+use Rattle.words.specs.Order.{ascends}
+use Rattle.durations.specs.Seconds.{largest}
+use Rattle.rtp_packet.specs.declared.RtpPacket.{RtpPacket}
+use Rattle.rtp_packet.specs.Header.{payloadOf}
+use Rattle.rtp_packet.specs.Datagram.{LARGEST-PAYLOAD, datagramRefusal, packetOf}
+use Rattle.model.specs.declared.Queue.{Queue}
+use Rattle.model.specs.declared.Session.{Session}
+use Rattle.model.specs.Records.{State, gapNumbers}
 use Rattle.model.specs.Rules.{Place, first, near, far, fills, other, is}
-use Rattle.model.specs.Push.{mediaPlace, afterPlaced}
-use Rattle.model.specs.Storage.{Stored, GAP-WORDS, gapsOf, parse, write}
-use Rattle.model.specs.Calls.{placedAnswer}
-use Rattle.model.specs.Table.{refusalAt}
-use Rattle.model.specs.Did.{Done}
+use Rattle.model.specs.Push.{mediaEntry, mediaPlace}
+use Rattle.model.specs.Storage.{Stored, GAP-WORDS, gapsOf, parse}
+use Rattle.model.specs.Table.{refusalAt, mediaRefusal, clockRefusal}
 use Rattle.entries.specs.declared.Entry as Row
 use Rattle.entries.specs.Entries.{entry, Incoming}
 use Rattle.session.specs.declared.push.Place as Code
 use Rattle.session.specs.Place.{place}
 use Rattle.storage.specs.Settled.{Settled}
-use Rattle.push.specs.Answers.{unlessRefused}
+use Rattle.push.specs.declared.Found.{Found}
+use Rattle.push.specs.declared.Judged.{Judged}
+use Rattle.push.specs.declared.Judged.the-variants.{Refused, Accepted}
 
-unfoldable pub didPlace : ℕ → Entry → Place → Stored → Done
-unfolding unlessRefused
-didPlace instant e p m = unlessRefused (refusalAt e p (parse m)) m (record { answer = placedAnswer p; stored = write (afterPlaced instant e p (parse m)); output = [] })
+-- what judging a packet asks of the session and its gaps: row 16 gives it
+pub record Readable (s : Session) (gaps : List ℕ) : Type 0 where
+  pub bytes : s .queue .counters .bytes ≤ largest
+  pub few : s .gaps ≤ s .queue .config .settings .«max_gaps»
+  pub room : GAP-WORDS * s .gaps ≤ length gaps
+  pub ascend : ascends (gapNumbers (gapsOf gaps (s .gaps))) ≡ true
 
--- what `did` says of a media packet that no check before 14 turns back
-unfoldable pub didPacket : ℕ → Entry → Stored → Done
-didPacket instant e m = didPlace instant e (mediaPlace (parse m) (e .number)) m
+-- the datagram d holds the packet, and neither 8 nor 2 to 7 catch it
+pub record Read (instant : ℕ) (d : List ℕ) (p : RtpPacket) (q : Queue) : Type 0 where
+  pub in-time : clockRefusal q instant ≡ 0
+  pub whole : datagramRefusal (q .config .senders .pt) (q .config .senders .ssrc .0) LARGEST-PAYLOAD d ≡ 0
+  pub packet : p ≡ packetOf d
+
+-- the datagram d is accepted, and this is its packet, the entry that it becomes and where its number stands
+pub record FoundIn (f : Found) (d : List ℕ) (s : State) : Type 0 where
+  pub accepted : mediaRefusal (f .instant) d s ≡ 0
+  pub packet : f .packet ≡ packetOf d
+  pub becomes : entry (f .entry) (payloadOf d) ≡ mediaEntry (f .instant) d (s .queue)
+  pub stands : place (f .place) ≡ mediaPlace s (f .entry .number .0)
+  pub incoming : Incoming (f .entry) (payloadOf d)
+
+-- every row but 16, to the number of the refusal or to what was found
+unfoldable pub JudgedAs : ℕ → List ℕ → State → Judged → Type 0
+JudgedAs instant d s (Refused k) = (mediaRefusal instant d s ≡ k) × (k ≡ 0 → ⊥)
+JudgedAs instant d s (Accepted f) = (f .instant ≡ instant) × FoundIn f d s
 
 -- the n gaps in the words can take what a number at this place brings
 unfoldable pub Takes : List ℕ → ℕ → ℕ → Place → Type 0

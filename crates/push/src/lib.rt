@@ -9,13 +9,14 @@ ghost use Rattle.model.specs.Push as Push;
 ghost use Rattle.model.specs.Storage.{parse, write};
 ghost use Rattle.durations.specs.Seconds.{largest};
 ghost use Rattle.rtp_packet.specs.Datagram.{LARGEST-PAYLOAD};
-ghost use Rattle.model.specs.Calls.{media, placedAnswer};
+ghost use Rattle.model.specs.Calls.{media, placedAnswer, answered, taken};
 ghost use Rattle.model.specs.Table.{sessionSound, packetRefusal};
 ghost use Rattle.entries.specs.Entries.{entry};
 ghost use Rattle.session.specs.Place as Spec;
 ghost use Rattle.push.specs.Answers.{mediaAnswer};
 ghost use Rattle.model.specs.Contract.{stored, before, after, Does};
-ghost use Rattle.push.specs.Media.{Fit, didPacket};
+ghost use Rattle.push.specs.Media.{Fit, Readable, Read, FoundIn, JudgedAs};
+ghost use Rattle.storage.specs.Settled.{Settled};
 use entries::Entry;
 use model::Queue;
 use model::Session;
@@ -39,14 +40,26 @@ pub struct Pushed {
     pub session: Session,
 }
 
+// What was found of a datagram that no check turns back: its packet, the entry that it becomes, and where its number stands.
+pub struct Found {
+    pub instant: u64,
+    pub packet: RtpPacket,
+    pub entry: Entry,
+    pub place: Place,
+}
+
+// A datagram, once every check after 16 is made.
+pub enum Judged {
+    Refused(u64),
+    Accepted(Found),
+}
+
 // A call that is turned back.
 fn refused(number: u64, session: Session) -> Pushed
     ensures { λ r. ⌜ r ≡ record { answer = MediaAnswer.Refused number; session = session } ⌝ }
 {
-    Pushed {
-        answer: MediaAnswer::Refused(number),
-        session,
-    }
+    let answer = MediaAnswer::Refused(number);
+    Pushed { answer, session }
 }
 
 // The entry that a packet becomes, without its payload; the number is the packet's own, or the original one of a repair.
@@ -241,41 +254,126 @@ fn place_packet(
     Pushed { answer, session }
 }
 
-// A media packet that no check before 14 turns back.
-fn push_packet(
+// 14, then 12, of the packet that the datagram holds; or what was found of it.
+fn judge_packet(
+    s: Session,
+    gaps: &[u64],
+    instant: u64,
+    datagram: &[u8],
+    packet: RtpPacket,
+) -> Judged
+    requires { ⌜ Readable s (now gaps) ⌝ }
+    requires { ⌜ Read instant (now datagram) packet (s .queue) ⌝ }
+    ensures { λ r. ⌜ ((entries payloads remembered : List ℕ) → JudgedAs instant (now (datagram .entry)) (parse (stored s entries payloads (now (gaps .entry)) remembered)) r) ⌝ }
+{
+    let q = s.queue;
+    let arrival = Opt::Some(instant);
+    let payload = rtp_packet::payload(datagram, packet);
+    let entry = extended_entry(q, arrival, packet, packet.sequence_number, payload.len());
+    let place = place::media_place(q, gaps, s.gaps, entry.number);
+    let refusal = packet_refusal(s, entry, place);
+    if refusal != 0 {
+        return Judged::Refused(refusal);
+    }
+    Judged::Accepted(Found {
+        instant,
+        packet,
+        entry,
+        place,
+    })
+}
+
+// The checks of a media packet after 16, in a datagram that came at this instant. Of the storage the gaps alone are read.
+pub fn judge(s: Session, gaps: &[u64], instant: u64, datagram: &[u8]) -> Judged
+    requires { ⌜ Readable s (now gaps) ⌝ }
+    ensures { λ r. ⌜ ((entries payloads remembered : List ℕ) → JudgedAs instant (now (datagram .entry)) (parse (stored s entries payloads (now (gaps .entry)) remembered)) r) ⌝ }
+{
+    let q = s.queue;
+    let clock = checks::clock_refusal(q, instant);
+    if clock != 0 {
+        return Judged::Refused(clock);
+    }
+    let config = q.config;
+    let senders = config.senders;
+    match rtp_packet::parse_media(datagram, senders.pt, senders.ssrc) {
+        Parsed::Refused(number) => Judged::Refused(number),
+        Parsed::Packet(packet) => judge_packet(s, gaps, instant, datagram, packet),
+    }
+}
+
+// What an accepted packet makes of the session, in storage that is settled. It cannot refuse.
+pub fn apply(
     s: Session,
     entries: &mut [u64],
     payloads: &mut [u8],
     gaps: &mut [u64],
-    remembered: &mut [u64],
-    instant: u64,
-    p: RtpPacket,
-    payload: &[u8],
+    remembered: &[u64],
+    found: Found,
+    datagram: &[u8],
 ) -> Pushed
-    requires { ⌜ sessionSound (stored s (now entries) (now payloads) (now gaps) (now remembered)) ≡ true ⌝ }
-    requires { ⌜ (instant ≤ largest) × (length (now payload) ≤ LARGEST-PAYLOAD) ⌝ }
-    ensures { λ r. ⌜ didPacket instant (Push.extendedEntry (s .queue) (Opt.Some instant) (p .timestamp .0) (p .«sequence_number» .0) (p .marker) (now (payload .entry))) (before entries payloads gaps remembered s) ≡ record { answer = mediaAnswer (r .answer); stored = after entries payloads gaps remembered (r .session); output = [] } ⌝ }
+    requires { ⌜ Settled (stored s (now entries) (now payloads) (now gaps) (now remembered)) ⌝ }
+    requires { ⌜ FoundIn found (now datagram) (parse (stored s (now entries) (now payloads) (now gaps) (now remembered))) ⌝ }
+    ensures { λ r. ⌜ mediaAnswer (r .answer) ≡ answered (media (found .instant) (now (datagram .entry))) (parse (stored s (now (entries .entry)) (now (payloads .entry)) (now (gaps .entry)) (now (remembered .entry)))) ⌝ }
+    ensures { λ r. ⌜ stored (r .session) (now (entries .exit)) (now (payloads .exit)) (now (gaps .exit)) (now (remembered .entry)) ≡ write (taken (media (found .instant) (now (datagram .entry))) (parse (stored s (now (entries .entry)) (now (payloads .entry)) (now (gaps .entry)) (now (remembered .entry))))) ⌝ }
 {
-    let q = s.queue;
-    let arrival = Opt::Some(instant);
-    let e = extended_entry(q, arrival, p, p.sequence_number, payload.len());
-    let place = place::media_place(q, gaps, s.gaps, e.number);
-    let refusal = packet_refusal(s, e, place);
-    if refusal != 0 {
-        return refused(refusal, s);
-    }
-    storage::settle(s, entries, payloads, gaps, remembered);
+    let packet = found.packet;
+    let entry = found.entry;
+    let place = found.place;
+    let payload = rtp_packet::payload(datagram, packet);
     place_packet(
         s,
         entries,
         payloads,
         gaps,
         remembered,
-        instant,
-        e,
+        found.instant,
+        entry,
         payload,
         place,
     )
+}
+
+// A media packet in a session that check 16 passes: judge, settle, apply.
+pub fn push_checked(
+    s: Session,
+    entries: &mut [u64],
+    payloads: &mut [u8],
+    gaps: &mut [u64],
+    remembered: &mut [u64],
+    instant: u64,
+    datagram: &[u8],
+) -> Pushed
+    requires { ⌜ sessionSound (stored s (now entries) (now payloads) (now gaps) (now remembered)) ≡ true ⌝ }
+    ensures { λ r. ⌜ Does (media instant (now (datagram .entry))) (before entries payloads gaps remembered s) (mediaAnswer (r .answer)) (after entries payloads gaps remembered (r .session)) [] ⌝ }
+{
+    match judge(s, gaps, instant, datagram) {
+        Judged::Refused(number) => refused(number, s),
+        Judged::Accepted(found) => {
+            storage::settle(s, entries, payloads, gaps, remembered);
+            apply(s, entries, payloads, gaps, remembered, found, datagram)
+        }
+    }
+}
+
+// The same where zeros stand in the unused places already: judge, apply.
+pub fn push_settled(
+    s: Session,
+    entries: &mut [u64],
+    payloads: &mut [u8],
+    gaps: &mut [u64],
+    remembered: &[u64],
+    instant: u64,
+    datagram: &[u8],
+) -> Pushed
+    requires { ⌜ Settled (stored s (now entries) (now payloads) (now gaps) (now remembered)) ⌝ }
+    ensures { λ r. ⌜ Does (media instant (now (datagram .entry))) (stored s (now (entries .entry)) (now (payloads .entry)) (now (gaps .entry)) (now (remembered .entry))) (mediaAnswer (r .answer)) (stored (r .session) (now (entries .exit)) (now (payloads .exit)) (now (gaps .exit)) (now (remembered .entry))) [] ⌝ }
+{
+    match judge(s, gaps, instant, datagram) {
+        Judged::Refused(number) => refused(number, s),
+        Judged::Accepted(found) => {
+            apply(s, entries, payloads, gaps, remembered, found, datagram)
+        }
+    }
 }
 
 // A media packet, in a datagram that came at this instant.
@@ -290,34 +388,9 @@ pub fn push(
 ) -> Pushed
     ensures { λ r. ⌜ Does (media now (datagram .entry .now)) (before entries payloads gaps remembered session) (mediaAnswer (r .answer)) (after entries payloads gaps remembered (r .session)) [] ⌝ }
 {
-    let refusal = storage::session_and_clock_refusal(
-        session,
-        entries,
-        payloads,
-        gaps,
-        remembered,
-        now,
-    );
-    if refusal != 0 {
-        return refused(refusal, session);
+    let damaged = storage::session_refusal(session, entries, payloads, gaps, remembered);
+    if damaged != 0 {
+        return refused(damaged, session);
     }
-    let q = session.queue;
-    let config = q.config;
-    let senders = config.senders;
-    match rtp_packet::parse_media(datagram, senders.pt, senders.ssrc) {
-        Parsed::Refused(number) => refused(number, session),
-        Parsed::Packet(p) => {
-            let payload = rtp_packet::payload(datagram, p);
-            push_packet(
-                session,
-                entries,
-                payloads,
-                gaps,
-                remembered,
-                now,
-                p,
-                payload,
-            )
-        }
-    }
+    push_checked(session, entries, payloads, gaps, remembered, now, datagram)
 }

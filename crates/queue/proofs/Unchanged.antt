@@ -14,14 +14,16 @@ use Rattle.refusals.specs.Refusals.{orElse}
 use Rattle.refusals.proofs.Laws.{orElse-first, orElse-none}
 use Rattle.config.specs.declared.NackTimings.{NackTimings}
 use Rattle.config.specs.declared.RtpInboundQueueMode.{RtpInboundQueueMode}
+use Rattle.config.specs.declared.RtpInboundStreamSortedQueueMode.{RtpInboundStreamSortedQueueMode}
 use Rattle.config.specs.declared.RtpInboundQueueMode.the-variants.{Passthrough, SortedQueue}
-use Rattle.config.specs.declared.Settings.{Settings}
+use Rattle.rtx_state.specs.RoundTrip.{optRttInRange}
+use Rattle.packet_loss.specs.Loss.{lossInRange}
 use Rattle.config.specs.Valid.{settingsValid}
 use Rattle.model.specs.declared.LastReceived.{LastReceived}
 use Rattle.model.specs.declared.LastReceived.the-variants as LastReceived
 use Rattle.model.specs.Records.{Entry}
 use Rattle.model.specs.Lists.{every?}
-use Rattle.model.specs.Poll.{timingsOf, receiveTimeout, nackTimeout}
+use Rattle.model.specs.Poll.{timingsOf, timeoutIn, receiveTimeout, nackTimeout}
 use Rattle.model.specs.Valid.{lastSound}
 use Rattle.model.specs.Storage.{Stored, ENTRY-WORDS, PAYLOAD-BYTES, GAP-WORDS, entryOf, entriesOf, gapsOf, parse, write}
 use Rattle.model.specs.Calls as Calls
@@ -48,14 +50,14 @@ left-as-is k m x a r e z t o b w = accepted-is k m r e z ∙ rw (t, o, b, w)
 
 -- ---- the front entry's timeout
 
-module _ (mode : RtpInboundQueueMode) (set : Settings) (last : LastReceived) (words bytes : List ℕ) (n now : ℕ) where
-  empty : (mode : RtpInboundQueueMode) (last : LastReceived) → Opt.None ≡ receiveTimeout mode set last [] now
-  unfolding receiveTimeout
+module _ (mode : RtpInboundQueueMode) (rate delay : ℕ) (last : LastReceived) (words bytes : List ℕ) (n now : ℕ) where
+  empty : (mode : RtpInboundQueueMode) (last : LastReceived) → Opt.None ≡ timeoutIn mode rate delay last [] now
+  unfolding timeoutIn
   empty Passthrough last = refl
-  empty SortedQueue LastReceived.None = refl
-  empty SortedQueue (LastReceived.Some r) = refl
+  empty (SortedQueue sorted) LastReceived.None = refl
+  empty (SortedQueue sorted) (LastReceived.Some r) = refl
 
-  pub empty-timeout : n ≡ 0 → Opt.None ≡ receiveTimeout mode set last (entriesOf words bytes n) now
+  pub empty-timeout : n ≡ 0 → Opt.None ≡ timeoutIn mode rate delay last (entriesOf words bytes n) now
   unfolding entriesOf blocks zipWith
   empty-timeout e = rw e (empty mode last)
 
@@ -65,14 +67,14 @@ module _ (mode : RtpInboundQueueMode) (set : Settings) (last : LastReceived) (wo
   first (suc k) ne P f = f (entriesOf (drop ENTRY-WORDS words) (drop PAYLOAD-BYTES bytes) k)
 
   module _ (ne : n ≡ 0 → ⊥) where
-    pub waiting-timeout : mode ≡ Passthrough → Opt.Some 0 ≡ receiveTimeout mode set last (entriesOf words bytes n) now
-    unfolding receiveTimeout
-    waiting-timeout e = rw e (first n ne (λ (l : List Entry). Opt.Some 0 ≡ receiveTimeout Passthrough set last l now) (λ es. refl))
+    pub waiting-timeout : mode ≡ Passthrough → Opt.Some 0 ≡ timeoutIn mode rate delay last (entriesOf words bytes n) now
+    unfolding timeoutIn
+    waiting-timeout e = rw e (first n ne (λ (l : List Entry). Opt.Some 0 ≡ timeoutIn Passthrough rate delay last l now) (λ es. refl))
 
-    pub front-timeout : mode ≡ SortedQueue → (t : ℕ) (r : Opt) → ((p : List ℕ) → entryOf (take ENTRY-WORDS words) p .timestamp ≡ t)
-        → ((e : Entry) (es : List Entry) → e .timestamp ≡ t → r ≡ receiveTimeout SortedQueue set last (e ∷ es) now)
-        → r ≡ receiveTimeout mode set last (entriesOf words bytes n) now
-    front-timeout e t r ts f = rw e (first n ne (λ (l : List Entry). r ≡ receiveTimeout SortedQueue set last l now) (λ es. f _ es (ts (take PAYLOAD-BYTES bytes))))
+    pub front-timeout : (sorted : RtpInboundStreamSortedQueueMode) → mode ≡ SortedQueue sorted → (t : ℕ) (r : Opt) → ((p : List ℕ) → entryOf (take ENTRY-WORDS words) p .timestamp ≡ t)
+        → ((e : Entry) (es : List Entry) → e .timestamp ≡ t → r ≡ timeoutIn (SortedQueue sorted) rate delay last (e ∷ es) now)
+        → r ≡ timeoutIn mode rate delay last (entriesOf words bytes n) now
+    front-timeout sorted e t r ts f = rw e (first n ne (λ (l : List Entry). r ≡ timeoutIn (SortedQueue sorted) rate delay last l now) (λ es. f _ es (ts (take PAYLOAD-BYTES bytes))))
 
 -- ---- what a timeout needs
 
@@ -98,6 +100,7 @@ module _ (m : Stored) (now : ℕ) (h : orElse (sessionRefusal m) (clockRefusal (
     settled-is = ready m timely-sound e p g r w
 
     pub receive-timed : (T (settingsValid (m .session .queue .config .settings)) × T (lastSound now (m .session .queue .last)) × (now ≤ largest))
+        × (T (lossInRange (m .session .queue .loss)) × T (optRttInRange (m .session .queue .rtx .rtt)))
         × (ENTRY-WORDS * m .session .entries ≤ length e)
         × (0 < m .session .entries → (b : List ℕ) → entryOf (take ENTRY-WORDS e) b .timestamp ≤ largest)
     unfolding parse
@@ -105,15 +108,15 @@ module _ (m : Stored) (now : ℕ) (h : orElse (sessionRefusal m) (clockRefusal (
         let k = settled-is in
         let s = k .checked .sound in
         let l = subst (Each (λ (x : Entry). x .timestamp ≤ largest)) (sym (k .entries-are)) (each-imp (λ x i. i .timestamp-fits) (s .lists-in .entries-in)) in
-        ((valid, last-later (m .session .queue .last) (clock .0) (s .queue-in .last-in), clock .1), k .entries-in .room, front-fits e p (m .session .entries) l)
+        ((valid, last-later (m .session .queue .last) (clock .0) (s .queue-in .last-in), clock .1), (s .queue-in .loss-in, s .queue-in .rtx-in .rtt-in), k .entries-in .room, front-fits e p (m .session .entries) l)
 
-    pub received-timeout : (t : Opt) → ((b : List ℕ) → t ≡ receiveTimeout (m .session .queue .config .settings .mode) (m .session .queue .config .settings) (m .session .queue .last) (entriesOf e b (m .session .entries)) now)
+    pub received-timeout : (t : Opt) → ((b : List ℕ) → t ≡ receiveTimeout (m .session .queue) (entriesOf e b (m .session .entries)) now)
         → Does (Calls.timeoutReceive now) m (Calls.timeout t) (stored (m .session) e p g r) []
     unfolding taken outputAfter answered refusal callRefusal parse
     received-timeout t f =
         let q = m .session .queue in
-        let a : receiveTimeout (q .config .settings .mode) (q .config .settings) (q .last) (parse m .entries) now ≡ t =
-        sym (f p ∙ ap (λ (l : List Entry). receiveTimeout (q .config .settings .mode) (q .config .settings) (q .last) l now) (settled-is .entries-are)) in
+        let a : receiveTimeout q (parse m .entries) now ≡ t =
+        sym (f p ∙ ap (λ (l : List Entry). receiveTimeout q l now) (settled-is .entries-are)) in
         left-as-is (Calls.timeoutReceive now) m (stored (m .session) e p g r) (Calls.timeout t) 0 (sym h) refl refl refl (ap Calls.timeout a) w
 
     pub nack-ready : (t : NackTimings) → t ≡ timingsOf (m .session .queue) → (GAP-WORDS * m .session .gaps ≤ length g) × ((every? instantsFit (gapsOf g (m .session .gaps)) ≡ true) × Small t)

@@ -6,8 +6,11 @@ ghost use Prim.Native.Nat.{ℕ, _*_, _≤_, _<_};
 ghost use lib.Dec.{T};
 ghost use lib.ListN.{length, take};
 ghost use Rattle.durations.specs.Seconds.{largest};
+ghost use Rattle.config.specs.declared.RtpInboundStreamSortedQueueMode.{RtpInboundStreamSortedQueueMode};
 ghost use Rattle.config.specs.declared.RtpInboundQueueMode.the-variants.{SortedQueue};
-ghost use Rattle.config.specs.Valid.{settingsValid};
+ghost use Rattle.rtx_state.specs.RoundTrip.{optRttInRange};
+ghost use Rattle.packet_loss.specs.Loss.{lossInRange};
+ghost use Rattle.config.specs.Valid.{longest, settingsValid};
 ghost use Rattle.model.specs.Records.{Entry, highestOf};
 ghost use Rattle.model.specs.Poll as Poll;
 ghost use Rattle.model.specs.Valid.{lastSound};
@@ -19,7 +22,6 @@ use super::HighestAnswer;
 use super::StatsAnswer;
 use super::TimeoutAnswer;
 use config::RtpInboundQueueMode;
-use config::Settings;
 use model::LastReceived;
 use model::Queue;
 use model::Session;
@@ -28,9 +30,15 @@ use rtp::opt::Opt;
 use stats::OptRtxStats;
 
 // Nanoseconds until the front entry of a sorted queue, which has this timestamp, is due.
-fn until_front(set: Settings, last: LastReceived, timestamp: ExtendedRtpTimestamp, now: u64) -> Opt
-    requires { ⌜ T (settingsValid set) × T (lastSound now last) × (timestamp .0 ≤ largest) × (now ≤ largest) ⌝ }
-    ensures { λ r. ⌜ ((e : Entry) (es : List Entry) → e .timestamp ≡ timestamp .0 → r ≡ Poll.receiveTimeout SortedQueue set last (e ∷ es) now) ⌝ }
+fn until_front(
+    rate: u32,
+    delay: u64,
+    last: LastReceived,
+    timestamp: ExtendedRtpTimestamp,
+    now: u64,
+) -> Opt
+    requires { ⌜ (1 ≤ rate) × (delay ≤ longest) × T (lastSound now last) × (timestamp .0 ≤ largest) × (now ≤ largest) ⌝ }
+    ensures { λ r. ⌜ ((sorted : RtpInboundStreamSortedQueueMode) (e : Entry) (es : List Entry) → e .timestamp ≡ timestamp .0 → r ≡ Poll.timeoutIn (SortedQueue sorted) rate delay last (e ∷ es) now) ⌝ }
 {
     match last {
         LastReceived::None => Opt::None,
@@ -38,8 +46,8 @@ fn until_front(set: Settings, last: LastReceived, timestamp: ExtendedRtpTimestam
             r.instant,
             r.timestamp,
             timestamp,
-            set.clock_rate,
-            set.target_delay(),
+            rate,
+            delay,
             now,
         )),
     }
@@ -48,9 +56,10 @@ fn until_front(set: Settings, last: LastReceived, timestamp: ExtendedRtpTimestam
 // Nanoseconds until the front of the n entries is due.
 fn receive_timeout(q: Queue, entries: &[u64], n: usize, now: u64) -> Opt
     requires { ⌜ T (settingsValid (q .config .settings)) × T (lastSound now (q .last)) × (now ≤ largest) ⌝ }
+    requires { ⌜ T (lossInRange (q .loss)) × T (optRttInRange (q .rtx .rtt)) ⌝ }
     requires { ⌜ ENTRY-WORDS * n ≤ length (entries .now) ⌝ }
     requires { ⌜ (0 < n → (p : List ℕ) → entryOf (take ENTRY-WORDS (entries .now)) p .timestamp ≤ largest) ⌝ }
-    ensures { λ r. ⌜ ((bytes : List ℕ) → r ≡ Poll.receiveTimeout (q .config .settings .mode) (q .config .settings) (q .last) (entriesOf (entries .entry .now) bytes n) now) ⌝ }
+    ensures { λ r. ⌜ ((bytes : List ℕ) → r ≡ Poll.receiveTimeout q (entriesOf (entries .entry .now) bytes n) now) ⌝ }
 {
     if n == 0 {
         return Opt::None;
@@ -61,8 +70,10 @@ fn receive_timeout(q: Queue, entries: &[u64], n: usize, now: u64) -> Opt
     let last = q.last;
     match mode {
         RtpInboundQueueMode::Passthrough => Opt::Some(0),
-        RtpInboundQueueMode::SortedQueue => {
-            until_front(set, last, entries::read(entries, 0).timestamp, now)
+        RtpInboundQueueMode::SortedQueue(_) => {
+            let delay = session::poll::target_delay(q);
+            let front = entries::read(entries, 0);
+            until_front(set.clock_rate, delay, last, front.timestamp, now)
         }
     }
 }

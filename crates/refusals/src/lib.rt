@@ -5,7 +5,8 @@ ghost use mathlib.Core.Path.{_≡_};
 ghost use Rattle.refusals.specs.Refusals.{orElse, numbers};
 
 // Opening: clock rate outside 1 to 1,000,000; D outside 1 to 1,024; G outside 999 to 4,096; a duration over 60,000,000,000; max
-// attempts outside 1 to 255; a payload type over 127.
+// attempts outside 1 to 255; a payload type over 127. 02, point 13, of a settings line also: a mode that is not its version's, a field that must
+// be 0.
 pub const SETTINGS: u64 = 1;
 
 // Datagram: under 12 bytes; after check 3 also: under its CSRCs and extension.
@@ -48,7 +49,8 @@ pub const ENTRIES_FULL: u64 = 13;
 pub const COUNT: u64 = 14;
 
 // Output: `poll`: lent buffer under 320 bytes; `poll_nack`: list under G numbers. 02, point 1: `poll_nack` on the wire: output under 4 · G
-// bytes; the reader of NACK entries: list under 17 numbers for each whole four bytes.
+// bytes; the reader of NACK entries: list under 17 numbers for each whole four bytes. Point 13: the writer of a settings line: output under 145
+// bytes.
 pub const OUTPUT: u64 = 15;
 
 // Session: storage lengths not those of D and G; a setting that 1 refuses; more than 2 · D entries, G gaps or 1,024 remembered;
@@ -61,8 +63,15 @@ pub const SESSION: u64 = 16;
 // 02, point 1, the reader of NACK entries: not a multiple of 4 bytes.
 pub const NACK_ENTRIES: u64 = 17;
 
+// 02, point 13, the reader of a settings line: its length not 145 (version 1: 121), its last byte no line feed, or a field not blanks, if any,
+// followed by at least one digit, or with a leading zero before another digit.
+pub const SETTINGS_LINE: u64 = 20;
+
+// 02, point 13, the reader of a settings line: the first 12 bytes not eleven blanks and 1 or 2, or not all there.
+pub const LINE_VERSION: u64 = 21;
+
 // The table's numbers, ascending, so that a number changed here is refused here.
-pub fn numbers() -> [u64; 17]
+pub fn numbers() -> [u64; 19]
     ensures { λ r. ⌜ r ≡ numbers ⌝ }
 {
     [
@@ -83,6 +92,8 @@ pub fn numbers() -> [u64; 17]
         OUTPUT,
         SESSION,
         NACK_ENTRIES,
+        SETTINGS_LINE,
+        LINE_VERSION,
     ]
 }
 

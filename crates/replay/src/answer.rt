@@ -7,15 +7,20 @@ use crate::record::Record;
 use crate::record::SIZE;
 use crate::record::TAIL;
 use crate::record::WORD;
+use config::Settings;
+use nack_pairs::read::ReadAnswer;
 use poll::HandedOut;
 use poll::PollAnswer;
 use poll::nack::NackAnswer;
+use poll::wire::WireAnswer;
 use push::MediaAnswer;
 use push::rtx::RepairAnswer;
 use queue::HighestAnswer;
 use queue::StatsAnswer;
 use queue::TimeoutAnswer;
 use rtp::opt::Opt;
+use settings_line::ReadSettings;
+use settings_line::WroteSettings;
 use stats::OptRtxStats;
 use stats::RtpInboundRtxStats;
 
@@ -55,6 +60,15 @@ pub(crate) fn media(r: &mut Record, answer: MediaAnswer) {
         MediaAnswer::Queued => word(r, record::QUEUED),
         MediaAnswer::Dropped => word(r, record::DROPPED),
         MediaAnswer::Refused(number) => refused(r, number),
+    }
+}
+
+// The refusal of the whole, or how many answers there are.
+pub(crate) fn burst(r: &mut Record, refusal: u64, answers: usize) {
+    if refusal == 0 {
+        list(r, record::ANSWERS, record::OCTETS, answers);
+    } else {
+        refused(r, refusal);
     }
 }
 
@@ -109,6 +123,20 @@ pub(crate) fn poll_nack(r: &mut Record, answer: NackAnswer) {
     }
 }
 
+pub(crate) fn nack_wire(r: &mut Record, answer: WireAnswer) {
+    match answer {
+        WireAnswer::Bytes(size) => list(r, record::WIRE, record::HEX, size),
+        WireAnswer::Refused(number) => refused(r, number),
+    }
+}
+
+pub(crate) fn read_nacks(r: &mut Record, answer: ReadAnswer) {
+    match answer {
+        ReadAnswer::Numbers(count) => list(r, record::NUMBERS_READ, record::NUMBERS, count),
+        ReadAnswer::Refused(number) => refused(r, number),
+    }
+}
+
 fn after(r: &mut Record, o: Opt) {
     match o {
         Opt::None => word(r, record::NONE),
@@ -157,6 +185,39 @@ pub(crate) fn highest(r: &mut Record, answer: HighestAnswer) {
     }
 }
 
+fn settings(r: &mut Record, s: Settings) {
+    let mode = s.mode;
+    let dynamic = mode.dynamic();
+    r[WORD] = record::SETTINGS;
+    r[COUNT] = 11;
+    r[TAIL] = record::NO_TAIL;
+    r[FIRST] = mode.number() as u64;
+    r[FIRST + 1] = s.clock_rate as u64;
+    r[FIRST + 2] = s.max_entries as u64;
+    r[FIRST + 3] = s.max_gaps as u64;
+    r[FIRST + 4] = s.delay;
+    r[FIRST + 5] = s.initial_nack_delay;
+    r[FIRST + 6] = s.default_nack_resend_delay;
+    r[FIRST + 7] = s.max_nack_attempts as u64;
+    r[FIRST + 8] = dynamic.min;
+    r[FIRST + 9] = dynamic.max;
+    r[FIRST + 10] = dynamic.target_recovery;
+}
+
+pub(crate) fn read_settings(r: &mut Record, answer: ReadSettings) {
+    match answer {
+        ReadSettings::Settings(s) => settings(r, s),
+        ReadSettings::Refused(number) => refused(r, number),
+    }
+}
+
+pub(crate) fn write_settings(r: &mut Record, answer: WroteSettings) {
+    match answer {
+        WroteSettings::Bytes(size) => list(r, record::SETTINGS_LINE, record::HEX, size),
+        WroteSettings::Refused(number) => refused(r, number),
+    }
+}
+
 // ---- the line
 
 fn tail(out: &mut [u8], at: usize, r: &Record, octets: &[u8], numbers: &[u16]) -> usize {
@@ -164,6 +225,7 @@ fn tail(out: &mut [u8], at: usize, r: &Record, octets: &[u8], numbers: &[u16]) -
     match r[TAIL] {
         record::HEX => put::hex(out, at, octets, size),
         record::NUMBERS => put::numbers(out, at, numbers, size),
+        record::OCTETS => put::octets(out, at, octets, size),
         _ => at,
     }
 }

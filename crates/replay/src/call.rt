@@ -6,6 +6,7 @@ use crate::input::LINE;
 use crate::record::COUNT;
 use crate::record::FIRST;
 use crate::record::OPEN;
+use crate::record::PLACES;
 use crate::record::Record;
 use crate::record::SIZE;
 
@@ -16,19 +17,27 @@ pub enum Call {
     NoSession,
     Open,
     Media,
+    Burst,
     Repair,
     Poll,
     PollNack,
+    NackWire,
+    ReadNacks,
     TimeoutReceive,
     TimeoutNack,
     RtxStats,
     Highest,
     State,
+    ReadSettings,
+    WriteSettings,
 }
 
 fn word_with_now(s: &[u8]) -> Call {
     if check::same(s, b"media") {
         return Call::Media;
+    }
+    if check::same(s, b"burst") {
+        return Call::Burst;
     }
     if check::same(s, b"repair") {
         return Call::Repair;
@@ -39,6 +48,9 @@ fn word_with_now(s: &[u8]) -> Call {
     if check::same(s, b"poll_nack") {
         return Call::PollNack;
     }
+    if check::same(s, b"nack_wire") {
+        return Call::NackWire;
+    }
     if check::same(s, b"timeout_receive") {
         return Call::TimeoutReceive;
     }
@@ -46,6 +58,20 @@ fn word_with_now(s: &[u8]) -> Call {
         return Call::TimeoutNack;
     }
     Call::Unreadable
+}
+
+// Of the calls that need no session.
+fn word_apart(s: &[u8]) -> Call {
+    if check::same(s, b"read_nacks") {
+        return Call::ReadNacks;
+    }
+    if check::same(s, b"read_settings") {
+        return Call::ReadSettings;
+    }
+    if check::same(s, b"write_settings") {
+        return Call::WriteSettings;
+    }
+    word_with_now(s)
 }
 
 fn word(s: &[u8]) -> Call {
@@ -61,33 +87,61 @@ fn word(s: &[u8]) -> Call {
     if check::same(s, b"state") {
         return Call::State;
     }
-    word_with_now(s)
+    word_apart(s)
 }
 
-// The place in the record behind the numbers of a call, before HEX where it has that.
+// The place in the record behind the numbers of a call, before HEX where it has that; the last, where that hangs on the first number.
 fn behind_numbers(call: Call) -> usize {
     match call {
-        Call::Open => FIRST + 13,
+        Call::Open => FIRST + 16,
+        Call::Burst | Call::NackWire => FIRST + 2,
+        Call::WriteSettings => FIRST + 12,
         Call::PassedOver | Call::Unreadable | Call::NoSession => FIRST,
-        Call::RtxStats | Call::Highest | Call::State => FIRST,
+        Call::RtxStats | Call::Highest | Call::State | Call::ReadSettings => FIRST,
         _ => FIRST + 1,
     }
 }
 
 fn has_hex(call: Call) -> bool {
     match call {
-        Call::Media | Call::Repair => true,
+        Call::Media | Call::Burst | Call::Repair | Call::ReadNacks | Call::ReadSettings => true,
         _ => false,
     }
 }
 
-// Whether the line from the place `at` on is HEX, the last field.
-fn is_last_hex(line: &mut [u8], at: usize, r: &mut Record) -> bool {
+// The place up to which numbers may stand behind HEX: the ends of a burst.
+fn last_behind(call: Call, first: usize) -> usize {
+    match call {
+        Call::Burst => PLACES,
+        _ => first,
+    }
+}
+
+// Whether the line from the place `at` on is HEX and the numbers behind it, from the place `first` of the record on.
+fn is_hex(call: Call, line: &mut [u8], at: usize, r: &mut Record, first: usize) -> bool {
     let Found::Number(size, to) = field::hex(line, at) else {
         return false;
     };
     r[SIZE] = size;
-    to == line.len()
+    let Found::Number(next, behind) = field::numbers(line, to, r, first, last_behind(call, first))
+    else {
+        return false;
+    };
+    r[COUNT] = next;
+    behind == line.len()
+}
+
+// An `open` has three numbers more in mode 2 than in any other.
+fn open_behind(mode: u64) -> usize {
+    if mode == 2 { FIRST + 16 } else { FIRST + 13 }
+}
+
+// Whether a call has all its numbers.
+fn is_complete(call: Call, next: u64, mode: u64) -> bool {
+    match call {
+        Call::Open => next as usize == open_behind(mode),
+        _ => next as usize == behind_numbers(call),
+    }
 }
 
 // Whether the line from the place `at` on is the call's fields: they are put where they belong.
@@ -96,11 +150,11 @@ fn are_fields(call: Call, line: &mut [u8], at: usize, r: &mut Record) -> bool {
     let Found::Number(next, to) = field::numbers(line, at, r, FIRST, last) else {
         return false;
     };
-    if next != last as u64 {
+    if !is_complete(call, next, r[FIRST]) {
         return false;
     }
     if has_hex(call) {
-        return is_last_hex(line, to, r);
+        return is_hex(call, line, to, r, last);
     }
     to == line.len()
 }
@@ -111,7 +165,8 @@ fn with_session(call: Call, open: u64) -> Call {
         return call;
     }
     match call {
-        Call::Open | Call::Unreadable => call,
+        Call::Open | Call::Unreadable | Call::ReadNacks => call,
+        Call::ReadSettings | Call::WriteSettings => call,
         _ => Call::NoSession,
     }
 }

@@ -2,7 +2,9 @@
 ghost use Prim.Native.Nat.{_≤_};
 use crate::answer;
 use crate::call::Call;
+use crate::input::LINE;
 use crate::record;
+use crate::record::COUNT;
 use crate::record::DEPTH;
 use crate::record::FIRST;
 use crate::record::OPEN;
@@ -10,6 +12,7 @@ use crate::record::Record;
 use crate::record::SIZE;
 use config::MAX_DEPTH;
 use config::MAX_GAPS;
+use config::RtpInboundStreamDynamicConfig;
 use config::Senders;
 use config::Settings;
 use entries::ENTRY_WORDS;
@@ -28,7 +31,7 @@ const D_WORDS: usize = 2 * ENTRY_WORDS;
 
 const D_BYTES: usize = 2 * PAYLOAD_BYTES;
 
-// Storage for the largest session, a list for its longest NACK, and bytes for the longest output.
+// Storage for the largest session, the longest list of numbers and the longest output of bytes.
 pub const ENTRIES: usize = D_WORDS * MAX_DEPTH;
 
 pub const PAYLOADS: usize = D_BYTES * MAX_DEPTH;
@@ -37,9 +40,11 @@ pub const GAPS: usize = GAP_WORDS * MAX_GAPS;
 
 pub const REMEMBERED: usize = REMEMBERED_WORDS * MAX_LOST_NACKED;
 
-pub const NUMBERS: usize = MAX_GAPS;
+// Of a line's HEX each eight digits name up to seventeen numbers.
+pub const NUMBERS: usize = 17 * LINE / 8;
 
-pub const OCTETS: usize = 2048;
+// An answer for each end that a line can have; four bytes for each of the largest G are fewer.
+pub const OCTETS: usize = LINE / 2;
 
 pub type Entries = [u64; ENTRIES];
 
@@ -53,9 +58,6 @@ pub type Numbers = [u16; NUMBERS];
 
 pub type Octets = [u8; OCTETS];
 
-// The Rust's default of the setting that a trace does not carry.
-const NACK_WINDOW: u64 = 200000000;
-
 // ---- open
 
 fn low8(x: u64) -> u8 {
@@ -68,7 +70,7 @@ fn low32(x: u64) -> u32 {
 
 // Whether the opening's own types hold the fields (docs/TRACE.md has their order).
 fn fit(r: &Record) -> bool {
-    (r[FIRST] <= 1)
+    (r[FIRST] <= 2)
         & (r[FIRST + 1] <= 4294967295)
         & (r[FIRST + 7] <= 4294967295)
         & (r[FIRST + 8] <= 255)
@@ -85,7 +87,12 @@ fn clock_rate_of(r: &Record) -> u32 {
 
 // Of fields that fit, the low bits are all.
 fn settings_of(r: &Record) -> Settings {
-    let mode = config::mode_of(r[FIRST]);
+    let dynamic = RtpInboundStreamDynamicConfig {
+        min: r[FIRST + 13],
+        max: r[FIRST + 14],
+        target_recovery: r[FIRST + 15],
+    };
+    let mode = config::mode_of(r[FIRST], dynamic);
     Settings {
         mode,
         clock_rate: clock_rate_of(r),
@@ -95,7 +102,6 @@ fn settings_of(r: &Record) -> Settings {
         initial_nack_delay: r[FIRST + 5],
         default_nack_resend_delay: r[FIRST + 6],
         max_nack_attempts: low32(r[FIRST + 7]),
-        nack_window: NACK_WINDOW,
     }
 }
 
@@ -195,6 +201,64 @@ fn look(
 
 // ---- every call
 
+// The ends of a burst, behind NOW and PLACES; `next` is the place behind them in the record.
+fn ends(r: &[u64], next: u64) -> &[u64] {
+    let to = least(next as usize, r.len());
+    if to < FIRST + 2 {
+        return &r[0..0];
+    }
+    &r[FIRST + 2..to]
+}
+
+// The calls that ask for something to go out.
+fn poll(
+    s: Session,
+    entries: &mut [u64],
+    payloads: &mut [u8],
+    gaps: &mut [u64],
+    remembered: &mut [u64],
+    call: Call,
+    r: &mut Record,
+    octets: &mut [u8],
+    numbers: &mut [u16],
+) -> Session {
+    let now = r[FIRST];
+    match call {
+        Call::Poll => {
+            let done = poll::poll(s, entries, payloads, gaps, remembered, now, octets);
+            let answer = done.answer;
+            answer::poll(r, answer);
+            done.session
+        }
+        Call::PollNack => {
+            let done = poll::nack::poll_nack(s, entries, payloads, gaps, remembered, now, numbers);
+            let answer = done.answer;
+            answer::poll_nack(r, answer);
+            done.session
+        }
+        Call::NackWire => {
+            let lent = least(r[FIRST + 1] as usize, octets.len());
+            let done = poll::wire::nack_wire(
+                s,
+                entries,
+                payloads,
+                gaps,
+                remembered,
+                now,
+                &mut octets[0..lent],
+            );
+            let answer = done.answer;
+            answer::nack_wire(r, answer);
+            done.session
+        }
+        _ => {
+            look(s, entries, payloads, gaps, remembered, call, r);
+            s
+        }
+    }
+}
+
+// An opening, or a call that brings datagrams, or one of the others.
 fn make(
     s: Session,
     entries: &mut [u64],
@@ -219,40 +283,107 @@ fn make(
             answer::media(r, answer);
             done.session
         }
+        Call::Burst => {
+            let lent = least(r[FIRST + 1] as usize, octets.len());
+            let next = r[COUNT];
+            let done = burst::push_burst(
+                s,
+                entries,
+                payloads,
+                gaps,
+                remembered,
+                now,
+                bytes,
+                ends(r, next),
+                &mut octets[0..lent],
+            );
+            answer::burst(r, done.refusal, done.answers);
+            done.session
+        }
         Call::Repair => {
             let done = push::rtx::push_rtx(s, entries, payloads, gaps, remembered, now, bytes);
             let answer = done.answer;
             answer::repair(r, answer);
             done.session
         }
-        Call::Poll => {
-            let done = poll::poll(s, entries, payloads, gaps, remembered, now, octets);
-            let answer = done.answer;
-            answer::poll(r, answer);
-            done.session
-        }
-        Call::PollNack => {
-            let done = poll::nack::poll_nack(s, entries, payloads, gaps, remembered, now, numbers);
-            let answer = done.answer;
-            answer::poll_nack(r, answer);
-            done.session
-        }
-        _ => {
-            look(s, entries, payloads, gaps, remembered, call, r);
-            s
-        }
+        _ => poll(
+            s,
+            entries,
+            payloads,
+            gaps,
+            remembered,
+            call,
+            r,
+            octets,
+            numbers,
+        ),
     }
 }
 
-// Whether a line needs no session, or is `state`, whose lines are written apart: what it is answered with is put into the record.
-fn is_apart(call: Call, r: &mut Record) -> bool {
+fn read_nacks(r: &mut Record, bytes: &[u8], numbers: &mut [u16]) {
+    let lent = least(r[FIRST] as usize, numbers.len());
+    let answer = nack_pairs::read::read(bytes, &mut numbers[0..lent]);
+    answer::read_nacks(r, answer);
+}
+
+// Puts the numbers behind PLACES where an opening has them. What must be 0 outside mode 2 and is not has the clock rate 0 in its place, which
+// is refused.
+fn as_opening(r: &mut Record) {
+    let min = r[FIRST + 9];
+    let max = r[FIRST + 10];
+    let target = r[FIRST + 11];
+    let mode = r[FIRST + 1];
+    r[FIRST] = mode;
+    r[FIRST + 1] = r[FIRST + 2];
+    r[FIRST + 2] = r[FIRST + 3];
+    r[FIRST + 3] = r[FIRST + 4];
+    r[FIRST + 4] = r[FIRST + 5];
+    r[FIRST + 5] = r[FIRST + 6];
+    r[FIRST + 6] = r[FIRST + 7];
+    r[FIRST + 7] = r[FIRST + 8];
+    r[FIRST + 8] = 0;
+    r[FIRST + 9] = 0;
+    r[FIRST + 10] = 0;
+    r[FIRST + 11] = 0;
+    r[FIRST + 12] = 0;
+    r[FIRST + 13] = min;
+    r[FIRST + 14] = max;
+    r[FIRST + 15] = target;
+    if (mode != 2) & ((min != 0) | (max != 0) | (target != 0)) {
+        r[FIRST + 1] = 0;
+    }
+}
+
+fn write_settings(r: &mut Record, octets: &mut [u8]) {
+    let lent = least(r[FIRST] as usize, octets.len());
+    as_opening(r);
+    let answer = settings_line::write_line(settings_of(r), &mut octets[0..lent]);
+    answer::write_settings(r, answer);
+}
+
+fn read_settings(r: &mut Record, bytes: &[u8]) {
+    let answer = settings_line::read_line(bytes);
+    answer::read_settings(r, answer);
+}
+
+// Whether a line needs no session, or is `state`, whose lines are written apart.
+fn is_apart(call: Call) -> bool {
     match call {
-        Call::PassedOver | Call::State => answer::word(r, record::NO_ANSWER),
+        Call::ReadNacks | Call::ReadSettings | Call::WriteSettings => true,
+        Call::PassedOver | Call::State | Call::Unreadable | Call::NoSession => true,
+        _ => false,
+    }
+}
+
+fn apart(call: Call, r: &mut Record, bytes: &[u8], octets: &mut [u8], numbers: &mut [u16]) {
+    match call {
+        Call::ReadNacks => read_nacks(r, bytes, numbers),
+        Call::ReadSettings => read_settings(r, bytes),
+        Call::WriteSettings => write_settings(r, octets),
         Call::Unreadable => answer::word(r, record::UNREADABLE),
         Call::NoSession => answer::word(r, record::NO_SESSION),
-        _ => return false,
+        _ => answer::word(r, record::NO_ANSWER),
     }
-    true
 }
 
 // ---- storage
@@ -292,7 +423,9 @@ pub(crate) fn step(
     octets: &mut [u8],
     numbers: &mut [u16],
 ) -> Session {
-    if is_apart(call, r) {
+    let size = least(r[SIZE] as usize, line.len());
+    if is_apart(call) {
+        apart(call, r, &line[0..size], octets, numbers);
         return s;
     }
     let d = least(depth(call, r), MAX_DEPTH);
@@ -300,7 +433,6 @@ pub(crate) fn step(
     let words = least(D_WORDS * d, entries.len());
     let places = least(D_BYTES * d, payloads.len());
     let gap_words = least(GAP_WORDS * g, gaps.len());
-    let size = least(r[SIZE] as usize, line.len());
     make(
         s,
         &mut entries[0..words],

@@ -39,7 +39,7 @@ fn cell(out: &mut [u8], at: usize, words: &[u8], k: usize) -> usize {
 
 pub(crate) fn word(out: &mut [u8], at: usize, i: u64) -> usize {
     let words =
-        b"............unreadable..no session..refused.....opened......queued......dropped.....recovered...redundant...too late....nothing.....packet......nack........none........after.......rtx.........highest.....";
+        b"............unreadable..no session..refused.....opened......queued......dropped.....recovered...redundant...too late....nothing.....packet......nack........none........after.......rtx.........highest.....wire........numbers.....answers.....settings....line........";
     cell(out, at, words, i as usize)
 }
 
@@ -92,6 +92,25 @@ pub(crate) fn numbers(out: &mut [u8], at: usize, list: &[u16], count: usize) -> 
         }
         let roomy = output::room(out, to);
         to = number(out, roomy, wide(list[i]));
+        i += 1;
+    }
+    to
+}
+
+fn wide8(x: u8) -> u64 {
+    x as u64
+}
+
+// The first `count` bytes, each as a number; written on the way too.
+pub(crate) fn octets(out: &mut [u8], at: usize, list: &[u8], count: usize) -> usize {
+    let mut to = at;
+    let mut i = 0;
+    while i < count {
+        if list.len() <= i {
+            return to;
+        }
+        let roomy = output::room(out, to);
+        to = number(out, roomy, wide8(list[i]));
         i += 1;
     }
     to

@@ -30,12 +30,14 @@ pub type Record = [u64; PLACES];
 // A number that is missing: no answer has it as a number.
 pub const MISSING: u64 = 18446744073709551615;
 
-// What stands behind the numbers: nothing; bytes as HEX; the list of 16-bit numbers; a list of bytes as numbers.
+// What stands behind the numbers: nothing; bytes as HEX; the list of 16-bit numbers; bytes, each as a number.
 pub const NO_TAIL: u64 = 0;
 
 pub const HEX: u64 = 1;
 
 pub const NUMBERS: u64 = 2;
+
+pub const OCTETS: u64 = 3;
 
 // The words of answers, by their place in `put::word`; the first is no answer.
 pub const NO_ANSWER: u64 = 0;
@@ -71,3 +73,13 @@ pub const AFTER: u64 = 14;
 pub const RTX: u64 = 15;
 
 pub const HIGHEST: u64 = 16;
+
+pub const WIRE: u64 = 17;
+
+pub const NUMBERS_READ: u64 = 18;
+
+pub const ANSWERS: u64 = 19;
+
+pub const SETTINGS: u64 = 20;
+
+pub const SETTINGS_LINE: u64 = 21;

@@ -31,7 +31,7 @@ some-in clock r t =
 pub last-in : (clock : ℕ) (l : LastReceived) (r : Received) → l ≡ Some r → T (lastSound clock l) → (r .instant ≤ clock) × (r .timestamp .0 ≤ largest)
 last-in clock l r e t = some-in clock r (subst (λ (x : LastReceived). T (lastSound clock x)) e t)
 
-estimate-in : (rtx : Bool) (rtt : OptRtt) → T (optRttInRange rtt) → T (optRttInRange (estimateIn rtx rtt))
+pub estimate-in : (rtx : Bool) (rtt : OptRtt) → T (optRttInRange rtt) → T (optRttInRange (estimateIn rtx rtt))
 unfolding estimateIn optRttInRange
 estimate-in true rtt t = t
 estimate-in false rtt t = tt

@@ -1,14 +1,13 @@
 // The timings of NACKs (01, "Repair state"): the settings', and the measured round trip's.
 ghost use mathlib.Core.Path.{_≡_};
-ghost use Rattle.model.specs.Rules.{estimateIn};
-ghost use Rattle.model.specs.Poll.{timingsOf};
+ghost use Rattle.model.specs.Poll.{estimateOf, timingsOf};
 use config::NackTimings;
 use model::Queue;
 use rtx_state::OptRtt;
 
 // The measured round trip; a session without RTX has none.
-fn estimate_of(q: Queue) -> OptRtt
-    ensures { λ r. ⌜ r ≡ estimateIn (q .config .senders .«has_rtx») (q .rtx .rtt) ⌝ }
+pub(crate) fn estimate_of(q: Queue) -> OptRtt
+    ensures { λ r. ⌜ r ≡ estimateOf q ⌝ }
 {
     let config = q.config;
     let rtx = q.rtx;

@@ -5,7 +5,10 @@ ghost use Prim.Native.Nat.{_+_, _≤_, _<_, _^_};
 ghost use lib.Dec.{T};
 ghost use Rattle.rtp.specs.Opt.{timestampOf, atMost};
 ghost use Rattle.durations.specs.Seconds.{largest};
-ghost use Rattle.config.specs.Valid.{settingsValid};
+ghost use Rattle.rtx_state.specs.RoundTrip.{optRttInRange};
+ghost use Rattle.packet_loss.specs.Loss.{lossInRange};
+ghost use Rattle.config.specs.Valid.{longest, settingsValid};
+ghost use Rattle.config.specs.declared.RtpInboundStreamSortedQueueMode.{RtpInboundStreamSortedQueueMode};
 ghost use Rattle.config.specs.declared.RtpInboundQueueMode.the-variants.{SortedQueue};
 ghost use Rattle.model.specs.Records as Records;
 ghost use Rattle.model.specs.Poll as Poll;
@@ -58,11 +61,23 @@ fn reaches(timestamp: ExtendedRtpTimestamp, limit: OptTimestamp) -> bool
     }
 }
 
-fn sorted_ready(q: Queue, now: u64, timestamp: ExtendedRtpTimestamp) -> bool
-    requires { ⌜ (q .clock ≤ now) × (now ≤ largest) ⌝ }
+// How long a packet is kept.
+pub fn target_delay(q: Queue) -> u64
+    requires { ⌜ T (settingsValid (q .config .settings)) × T (lossInRange (q .loss)) × T (optRttInRange (q .rtx .rtt)) ⌝ }
+    ensures { λ r. ⌜ (r ≡ Poll.delayOf q) × (r ≤ longest) ⌝ }
+{
+    let config = q.config;
+    let settings = config.settings;
+    let jitter = q.jitter;
+    let loss = q.loss;
+    settings.target_delay(jitter, loss, super::nack::estimate_of(q))
+}
+
+fn sorted_ready(q: Queue, delay: u64, now: u64, timestamp: ExtendedRtpTimestamp) -> bool
+    requires { ⌜ (q .clock ≤ now) × (now ≤ largest) × (delay ≤ longest) ⌝ }
     requires { ⌜ T (settingsValid (q .config .settings)) ⌝ }
     requires { ⌜ T (Valid.lastSound (q .clock) (q .last)) ⌝ }
-    ensures { λ r. ⌜ r ≡ Poll.readyIn SortedQueue (q .config .settings) (q .last) now (timestamp .0) ⌝ }
+    ensures { λ r. ⌜ ((sorted : RtpInboundStreamSortedQueueMode) → r ≡ Poll.readyIn (SortedQueue sorted) (q .config .settings .«clock_rate») delay (q .last) now (timestamp .0)) ⌝ }
 {
     let last = q.last;
     let config = q.config;
@@ -74,7 +89,7 @@ fn sorted_ready(q: Queue, now: u64, timestamp: ExtendedRtpTimestamp) -> bool
                 r.instant,
                 r.timestamp,
                 settings.clock_rate,
-                settings.target_delay(),
+                delay,
                 now,
             );
             reaches(timestamp, limit)
@@ -82,18 +97,18 @@ fn sorted_ready(q: Queue, now: u64, timestamp: ExtendedRtpTimestamp) -> bool
     }
 }
 
-// Whether an entry of the timestamp goes out where it is the first.
-pub fn ready(q: Queue, now: u64, timestamp: ExtendedRtpTimestamp) -> bool
-    requires { ⌜ (q .clock ≤ now) × (now ≤ largest) ⌝ }
+// Whether an entry of the timestamp goes out where it is the first and packets are kept for the delay.
+pub fn ready(q: Queue, delay: u64, now: u64, timestamp: ExtendedRtpTimestamp) -> bool
+    requires { ⌜ (q .clock ≤ now) × (now ≤ largest) × (delay ≤ longest) ⌝ }
     requires { ⌜ T (settingsValid (q .config .settings)) ⌝ }
     requires { ⌜ T (Valid.lastSound (q .clock) (q .last)) ⌝ }
-    ensures { λ r. ⌜ r ≡ Poll.ready q now (timestamp .0) ⌝ }
+    ensures { λ r. ⌜ r ≡ Poll.readyIn (q .config .settings .mode) (q .config .settings .«clock_rate») delay (q .last) now (timestamp .0) ⌝ }
 {
     let config = q.config;
     let settings = config.settings;
     let mode = settings.mode;
     match mode {
         RtpInboundQueueMode::Passthrough => true,
-        RtpInboundQueueMode::SortedQueue => sorted_ready(q, now, timestamp),
+        RtpInboundQueueMode::SortedQueue(_) => sorted_ready(q, delay, now, timestamp),
     }
 }

@@ -1,13 +1,14 @@
 //! Who is heard, and what goes out: one receiver to a caller.
 
 use crate::figures::Writer;
+use crate::nacks::{Asking, Nacks};
 use crate::options::Options;
 use crate::report::Report;
 use crate::wav::Wav;
-use bizhgemu::{Config, Event, Header, Queue, Receiver, Why};
+use bizhgemu::{Config, Event, Header, Queue, Receiver, Taken, Why};
 use std::collections::BTreeMap;
 use std::io::{self, Write};
-use std::net::UdpSocket;
+use std::net::{SocketAddr, UdpSocket};
 use std::time::Duration;
 
 /// A caller that said nothing for so long gives its place to another.
@@ -17,11 +18,13 @@ struct Caller {
     receiver: Receiver,
     report: Report,
     heard_at: Duration,
+    /// Where the last packet came from that was taken.
+    source: Option<SocketAddr>,
 }
 
 pub struct Callers<'a> {
     options: &'a Options,
-    socket: &'a UdpSocket,
+    asking: Asking<'a>,
     output: Box<dyn Write>,
     figures: Option<Writer>,
     list: Vec<Caller>,
@@ -36,8 +39,9 @@ impl<'a> Callers<'a> {
         Queue::open(&options.config).map_err(io::Error::other)?;
         let figures = options.figures.as_deref().map(Writer::create).transpose()?;
         let output = options.output()?;
+        let asking = Asking::new(options.nacks(), options.own_ssrc, socket);
         let mut callers =
-            Callers { options, socket, output, figures, list: Vec::new(), wavs: BTreeMap::new(), elsewhere: 0 };
+            Callers { options, asking, output, figures, list: Vec::new(), wavs: BTreeMap::new(), elsewhere: 0 };
         if options.senders_known() {
             warn_of_one_bit(&options.config);
         }
@@ -49,18 +53,23 @@ impl<'a> Callers<'a> {
 
     fn open(&mut self, config: Config, now: Duration) -> io::Result<&mut Caller> {
         let receiver = Receiver::open(&config, self.options.rules, now).map_err(io::Error::other)?;
-        self.list.push(Caller { receiver, report: Report::default(), heard_at: now });
+        let report = Report::new(self.options.nacks() != Nacks::Untold);
+        self.list.push(Caller { receiver, report, heard_at: now, source: None });
         Ok(self.list.last_mut().expect("just opened"))
     }
 
     /// Hands a datagram to whom it belongs.
-    pub fn take(&mut self, now: Duration, datagram: &[u8]) {
+    pub fn take(&mut self, now: Duration, datagram: &[u8], source: SocketAddr) {
         let Some(caller) = self.caller_of(now, datagram) else {
             self.elsewhere += 1;
             return;
         };
         caller.heard_at = now;
         let taken = caller.receiver.take(now, datagram);
+        // whoever is refused is not asked
+        if matches!(taken, Taken::Queued | Taken::Recovered) {
+            caller.source = Some(source);
+        }
         caller.report.taken(taken, datagram);
     }
 
@@ -91,10 +100,7 @@ impl<'a> Callers<'a> {
     /// NACKs, then packets until none is due.
     pub fn serve(&mut self, now: Duration) -> io::Result<()> {
         for caller in &mut self.list {
-            let numbers = caller.receiver.nacks(now);
-            if !numbers.is_empty() {
-                self.options.nacks.send(self.socket, numbers)?;
-            }
+            self.asking.serve(now, &mut caller.receiver, caller.source);
             while let Some(heard) = caller.receiver.poll(now) {
                 self.output.write_all(heard.packet.payload)?;
                 caller.report.handed_out(now, &heard);
@@ -140,6 +146,9 @@ impl<'a> Callers<'a> {
     }
 
     pub fn end(&mut self) -> io::Result<()> {
+        if let Some(told) = self.asking.told() {
+            eprintln!("{told}");
+        }
         self.wavs.values_mut().try_for_each(Wav::settle)
     }
 }

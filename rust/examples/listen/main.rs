@@ -5,6 +5,7 @@
 
 mod callers;
 mod figures;
+mod nacks;
 mod options;
 mod report;
 mod wav;
@@ -34,7 +35,7 @@ fn main() -> ExitCode {
             return ExitCode::from(2);
         }
     };
-    match listen(&options) {
+    match options.write_settings().unwrap_or_else(|| listen(&options)) {
         Ok(()) => ExitCode::SUCCESS,
         Err(error) => {
             eprintln!("listen: {error}");
@@ -61,10 +62,11 @@ fn listen(options: &Options) -> io::Result<()> {
         }
         let wait = callers.timeout(now).min(next_report.saturating_sub(now));
         socket.set_read_timeout(Some(wait.max(SHORTEST_WAIT)))?;
-        match socket.recv(&mut datagram) {
-            Ok(length) => callers.take(clock.now(), &datagram[..length]),
+        match socket.recv_from(&mut datagram) {
+            Ok((length, source)) => callers.take(clock.now(), &datagram[..length], source),
             Err(error)
                 if matches!(error.kind(), ErrorKind::WouldBlock | ErrorKind::TimedOut | ErrorKind::Interrupted) => {}
+            Err(error) if nacks::unanswered(&error) => {}
             Err(error) => return Err(error),
         }
     }

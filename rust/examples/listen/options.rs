@@ -1,10 +1,10 @@
 //! The command line.
 
+use crate::nacks::Nacks;
 use crate::wav::Format;
 use bizhgemu::{Config, Mode, Rtx, Rules, Sender};
 use std::fs::File;
 use std::io::{self, Write};
-use std::net::UdpSocket;
 use std::time::Duration;
 
 pub const USAGE: &str = "usage: listen [OPTION VALUE ..]
@@ -12,6 +12,8 @@ pub const USAGE: &str = "usage: listen [OPTION VALUE ..]
 Hears RTP from a UDP port: payloads out in order, a line of figures each second on standard error, and what the figures mean.
 
   --address HOST:PORT  where RTP comes in                            127.0.0.1:5004
+  --settings FILE      settings kept as a line of text (docs/USING.md); options after it change them   none
+  --write-settings FILE  writes the settings as such a line and ends; payload types and senders are not kept   none
   --pt N               payload type of the media                     0
   --ssrc N|any         its sender; any: whoever sends this payload type   any
   --callers N          with --ssrc any: how many senders are heard at a time   1
@@ -22,7 +24,9 @@ Hears RTP from a UDP port: payloads out in order, a line of figures each second 
   --rtx-pt N           payload type of repairs                       no repairs
   --rtx-ssrc N|media   sender of repairs; media: that of the media   media
   --resend MS          from one NACK to the next while no round trip is measured   20
-  --nack print|ADDRESS NACK numbers: a line on standard error, or a datagram with that line   not told
+  --nack WHERE         where RTCP generic NACKs are sent: source, the address RTP comes from; source+1, the port after it;
+                       HOST:PORT; print, a line on standard error; none   source with --rtx-pt, else none
+  --own-ssrc N         SSRC that they are sent under                 at random
   --restart N|never    packets dropped one after the other that mean a restart     10
   --out FILE           payloads in order, of one caller              standard output, unless --wav is given
   --wav PREFIX         sound of each caller, as PREFIX-SSRC.wav      none
@@ -41,27 +45,6 @@ For example, 5 s of sound from GStreamer, heard and then played:
 Payloads over 320 bytes are refused under 5. GStreamer's payloaders make them as long as the buffers they get, up to mtu=1400: give
 max-ptime. ffmpeg fills packets up to pkt_size=1472: give pkt_size, as rtp://127.0.0.1:5004?pkt_size=172.";
 
-/// What becomes of numbers to NACK. A box sends them as RTCP feedback (RFC 4585); here they are a line of text, which a script can read.
-pub enum Nacks {
-    Untold,
-    Printed,
-    Sent(String),
-}
-
-impl Nacks {
-    pub fn send(&self, socket: &UdpSocket, numbers: &[u16]) -> io::Result<()> {
-        let line = numbers.iter().fold("NACK".to_string(), |line, number| format!("{line} {number}"));
-        match self {
-            Nacks::Untold => {}
-            Nacks::Printed => eprintln!("{line}"),
-            Nacks::Sent(address) => {
-                socket.send_to(format!("{line}\n").as_bytes(), address)?;
-            }
-        }
-        Ok(())
-    }
-}
-
 pub struct Options {
     pub address: String,
     pub config: Config,
@@ -69,10 +52,14 @@ pub struct Options {
     /// None: whoever sends the payload type.
     pub ssrc: Option<u32>,
     pub callers: usize,
-    pub nacks: Nacks,
+    /// None: as the other options say.
+    nacks: Option<Nacks>,
+    pub own_ssrc: Option<u32>,
     pub seconds: Option<Duration>,
     pub wav: Option<String>,
     pub figures: Option<String>,
+    /// Where the settings are to be written.
+    pub write_settings: Option<String>,
     rtx_ssrc: Option<u32>,
     format: Option<Format>,
     channels: Option<u16>,
@@ -87,10 +74,12 @@ impl Options {
             rules: Rules::default(),
             ssrc: None,
             callers: 1,
-            nacks: Nacks::Untold,
+            nacks: None,
+            own_ssrc: None,
             seconds: None,
             wav: None,
             figures: None,
+            write_settings: None,
             rtx_ssrc: None,
             format: None,
             channels: None,
@@ -99,6 +88,10 @@ impl Options {
         while let Some(word) = words.next() {
             let value =
                 words.next().ok_or_else(|| format!("{word}: an option is followed by its value; see listen --help"))?;
+            if word == "--settings" {
+                options.take_settings(&value)?;
+                continue;
+            }
             options
                 .set(&word, &value)
                 .ok_or_else(|| format!("{word} {value}: not an option and its value; see listen --help"))?;
@@ -116,7 +109,7 @@ impl Options {
             "--ssrc" => self.ssrc = Some(number(value)?),
             "--callers" => self.callers = number::<usize>(value).filter(|callers| *callers > 0)?,
             "--clock-rate" => config.clock_rate = number(value)?,
-            "--delay" if value == "none" => config.mode = Mode::Passthrough,
+            "--delay" if value == "none" => (config.mode, config.delay) = (Mode::Passthrough, Duration::ZERO),
             "--delay" => config.delay = Duration::from_millis(number(value)?),
             "--depth" => config.max_entries = number(value)?,
             "--gaps" => config.max_gaps = number(value)?,
@@ -124,8 +117,8 @@ impl Options {
             "--rtx-ssrc" if value == "media" => self.rtx_ssrc = None,
             "--rtx-ssrc" => self.rtx_ssrc = Some(number(value)?),
             "--resend" => config.default_nack_resend_delay = Duration::from_millis(number(value)?),
-            "--nack" if value == "print" => self.nacks = Nacks::Printed,
-            "--nack" => self.nacks = Nacks::Sent(value.into()),
+            "--nack" => self.nacks = Some(Nacks::named(value)?),
+            "--own-ssrc" => self.own_ssrc = Some(number(value)?),
             "--restart" if value == "never" => self.rules.restart = None,
             "--restart" => self.rules.restart = Some(number(value)?),
             "--out" => self.out = Some(value.into()),
@@ -133,10 +126,28 @@ impl Options {
             "--format" => self.format = Some(Format::named(value)?),
             "--channels" => self.channels = Some(number::<u16>(value).filter(|channels| (1..=8).contains(channels))?),
             "--figures" => self.figures = Some(value.into()),
+            "--write-settings" => self.write_settings = Some(value.into()),
             "--seconds" => self.seconds = Some(Duration::from_secs(number(value)?)),
             _ => return None,
         }
         Some(())
+    }
+
+    /// The settings of a file, with the senders that other options gave.
+    fn take_settings(&mut self, file: &str) -> Result<(), String> {
+        let line = std::fs::read(file).map_err(|error| format!("--settings {file}: {error}"))?;
+        let read = Config::from_line(&line).map_err(|error| format!("--settings {file}: {error}"))?;
+        let senders = (self.config.payload_type, self.config.ssrc, self.config.rtx);
+        self.config = read;
+        (self.config.payload_type, self.config.ssrc, self.config.rtx) = senders;
+        Ok(())
+    }
+
+    /// Writes the settings, if that was asked for.
+    pub fn write_settings(&self) -> Option<io::Result<()>> {
+        let file = self.write_settings.as_ref()?;
+        let line = self.config.to_line().map_err(io::Error::other);
+        Some(line.and_then(|line| std::fs::write(file, line)).map_err(|error| of_file(file, error)))
     }
 
     /// What one option says about another.
@@ -165,6 +176,12 @@ impl Options {
     /// Whether it is known from the beginning how far media and repairs are apart: by their SSRCs, or because they have one.
     pub fn senders_known(&self) -> bool {
         self.ssrc.is_some() || self.rtx_ssrc.is_none()
+    }
+
+    /// Where NACKs go: where repairs are expected, to whom sends.
+    pub fn nacks(&self) -> Nacks {
+        let usual = if self.config.rtx.is_some() { Nacks::ToSource } else { Nacks::Untold };
+        self.nacks.unwrap_or(usual)
     }
 
     /// How the payloads are decoded, and how many channels they have.

@@ -6,9 +6,12 @@ use std::time::Duration;
 
 /// Media packets dropped one after the other from which on the sender is taken to have restarted.
 const RESTART: u64 = 25;
+/// Numbers NACKed from which on a sender that repaired none is taken not to hear them.
+const UNANSWERED: u64 = 20;
 
 /// What the queue does not count by itself.
 pub struct Report {
+    asks: bool,
     /// Dropped in this session, and in a row.
     dropped: u64,
     dropped_in_a_row: u64,
@@ -18,19 +21,24 @@ pub struct Report {
     too_large: usize,
     /// Whether it was said what to do about packets that are too large.
     advised: bool,
+    /// Numbers NACKed when it was last said that no repair comes.
+    unanswered: u64,
     held: [u64; HELD],
     before: Before,
 }
 
-impl Default for Report {
-    fn default() -> Report {
+impl Report {
+    /// `asks`: whether the sender hears of NACKs.
+    pub fn new(asks: bool) -> Report {
         Report {
+            asks,
             dropped: 0,
             dropped_in_a_row: 0,
             other_payload_type: None,
             other_ssrc: None,
             too_large: 0,
             advised: false,
+            unanswered: 0,
             held: [0; HELD],
             before: Before::default(),
         }
@@ -139,7 +147,11 @@ impl Report {
             nacked: tally.nacked,
             recovered: tally.recovered,
             not_needed: tally.not_needed,
-            refused: Refusal::all().map(|refusal| tally.refused(refusal)).collect(),
+            // those of a settings line are none of a stream's
+            refused: Refusal::all()
+                .filter(|refusal| refusal.number() < 20)
+                .map(|refusal| tally.refused(refusal))
+                .collect(),
             held: std::mem::replace(&mut self.held, [0; HELD]),
         })
     }
@@ -194,6 +206,7 @@ impl Report {
         }
         signs.extend(self.depth_sign(figures, config));
         signs.extend(self.nack_sign(figures, queue));
+        signs.extend(self.unanswered_sign(figures, config));
         signs.extend(self.clock_rate_sign(queue, config));
         signs
     }
@@ -253,6 +266,19 @@ impl Report {
         } else {
             None
         }
+    }
+
+    fn unanswered_sign(&mut self, figures: &Figures, config: &Config) -> Option<String> {
+        let answered = !self.asks || config.rtx.is_none() || figures.recovered + figures.not_needed > 0;
+        if answered || figures.nacked < UNANSWERED.max(self.unanswered + 1) {
+            return None;
+        }
+        self.unanswered = figures.nacked;
+        Some(format!(
+            "{} numbers NACKed and never a repair: is RTCP heard where it goes (--nack), and are payload type and SSRC those of the \
+             sender's repairs?",
+            figures.nacked
+        ))
     }
 
     fn clock_rate_sign(&self, queue: &Queue, config: &Config) -> Option<String> {

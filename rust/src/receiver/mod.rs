@@ -3,8 +3,9 @@ mod rules;
 use crate::answers::{Figures, Media, Packet, Repair, RtxStats};
 use crate::config::{Config, Mode};
 use crate::header::Header;
-use crate::queue::Queue;
+use crate::queue::{ENTRY_BYTES, Queue};
 use crate::refusal::Refusal;
+use crate::rtcp::Reporter;
 use crate::time::LATEST;
 use alloc::boxed::Box;
 use alloc::collections::VecDeque;
@@ -182,7 +183,8 @@ impl Receiver {
         Some(self.out.heard())
     }
 
-    /// The numbers to ask the sender for again; empty where none is due. Call it even if you send no NACKs.
+    /// The numbers to ask the sender for again; empty where none is due. Call it, or [`nack_packets`](Receiver::nack_packets) in its
+    /// place, even if you send no NACKs.
     pub fn nacks(&mut self, now: Duration) -> &[u16] {
         let at = self.instant(now);
         self.numbers.clear();
@@ -192,6 +194,35 @@ impl Receiver {
         }
         self.tally.nacked += self.numbers.len() as u64;
         &self.numbers
+    }
+
+    /// The same as RTCP datagrams, to be sent to the sender as they are: generic NACKs (RFC 4585, section 6.2.1) of the present sender;
+    /// none where no number is due, and seldom more than one.
+    ///
+    /// ```
+    /// use bizhgemu::{Config, Receiver, Rules, rtcp::Reporter};
+    /// use std::time::Duration;
+    ///
+    /// let mut receiver = Receiver::open(&Config::pcmu(42), Rules::default(), Duration::ZERO)?;
+    /// let reporter = Reporter::reduced_size(7);
+    /// receiver.take(Duration::ZERO, &[0x80, 0, 0, 7, 0, 0, 0, 0, 0, 0, 0, 42, 0x2a]);
+    /// receiver.take(Duration::from_millis(40), &[0x80, 0, 0, 9, 0, 0, 1, 64, 0, 0, 0, 42, 0x2a]);
+    /// let datagrams = receiver.nack_packets(Duration::from_millis(45), &reporter);
+    /// assert_eq!(datagrams, [[0x81, 205, 0, 3, 0, 0, 0, 7, 0, 0, 0, 42, 0, 8, 0, 0]]);
+    /// # Ok::<(), bizhgemu::Refusal>(())
+    /// ```
+    pub fn nack_packets(&mut self, now: Duration, reporter: &Reporter) -> Vec<Vec<u8>> {
+        let at = self.instant(now);
+        match self.queue.nack_wire(at) {
+            Ok(entries) => {
+                self.tally.nacked += named(entries);
+                reporter.generic_nacks(self.config.ssrc, entries).collect()
+            }
+            Err(refusal) => {
+                self.renew(Why::Refused(refusal));
+                Vec::new()
+            }
+        }
     }
 
     /// How long there is nothing to do unless a datagram comes; none: until one comes. There may be nothing to do then, so have a
@@ -310,7 +341,8 @@ impl Receiver {
         }
         // the session's own settings: those of the receiver may already be the next one's
         let config = self.queue.config();
-        let delay = if config.mode == Mode::Passthrough { Duration::ZERO } else { config.delay };
+        // a dynamic delay is told with the packets that `poll` hands out, and these are not
+        let delay = if config.mode == Mode::SortedQueue { config.delay } else { Duration::ZERO };
         let waiting = self.queue.waiting().map(|waiting| {
             let out = Out {
                 received_at: waiting.received_at.map(|received| self.start + received),
@@ -542,6 +574,12 @@ impl Receiver {
             self.renew(Why::Stall);
         }
     }
+}
+
+/// How many numbers entries name: the first of each, and one for each bit of its mask.
+fn named(entries: &[u8]) -> u64 {
+    let (entries, _) = entries.as_chunks::<ENTRY_BYTES>();
+    entries.iter().map(|[_, _, high, low]| u64::from(1 + high.count_ones() + low.count_ones())).sum()
 }
 
 fn number(datagram: &[u8]) -> u16 {

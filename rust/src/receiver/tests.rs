@@ -75,10 +75,11 @@ fn a_damaged_session_is_replaced_from_whichever_call() {
         |queue| queue.session.config.ssrc = 9,
         |queue| queue.storage.entries[0] = u64::MAX,
     ];
-    let calls: [fn(&mut Receiver); 3] = [
+    let calls: [fn(&mut Receiver); 4] = [
         |receiver| _ = receiver.take(ms(80), &datagram(4)),
         |receiver| _ = receiver.poll(ms(80)),
         |receiver| _ = receiver.nacks(ms(80)),
+        |receiver| _ = receiver.nack_packets(ms(80), &Reporter::reduced_size(9)),
     ];
     for (which, damage) in damages.into_iter().enumerate() {
         for call in calls {

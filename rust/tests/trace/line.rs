@@ -10,6 +10,10 @@ pub enum Call {
     Repair(u64, Vec<u8>),
     Poll(u64),
     PollNack(u64),
+    /// NOW PLACES
+    NackWire(u64, u64),
+    /// PLACES, and the entries
+    ReadNacks(u64, Vec<u8>),
     TimeoutReceive(u64),
     TimeoutNack(u64),
     RtxStats,
@@ -36,6 +40,8 @@ pub fn read(line: &[u8]) -> Option<Call> {
         ("repair", [now, bytes]) => Call::Repair(number(now)?, hex(bytes)?),
         ("poll", [now]) => Call::Poll(number(now)?),
         ("poll_nack", [now]) => Call::PollNack(number(now)?),
+        ("nack_wire", [now, places]) => Call::NackWire(number(now)?, number(places)?),
+        ("read_nacks", [places, bytes]) => Call::ReadNacks(number(places)?, hex(bytes)?),
         ("timeout_receive", [now]) => Call::TimeoutReceive(number(now)?),
         ("timeout_nack", [now]) => Call::TimeoutNack(number(now)?),
         ("rtx_stats", []) => Call::RtxStats,

@@ -2,7 +2,7 @@
 
 mod line;
 
-use bizhgemu::{Config, Media, Mode, Packet, Queue, Refusal, Repair, Rtx};
+use bizhgemu::{Config, Media, Mode, Packet, Queue, Refusal, Repair, Rtx, read_nacks_into};
 use line::Call;
 use std::fmt::Display;
 use std::time::Duration;
@@ -22,6 +22,7 @@ impl Host {
         };
         let answer = match (call, &mut self.0) {
             (Call::Open(fields), _) => self.open(fields),
+            (Call::ReadNacks(places, bytes), _) => read_nacks(places, &bytes).map(|line| vec![line]),
             (_, None) => Ok(vec!["no session".into()]),
             (Call::State, Some(queue)) => state(queue),
             (call, Some(queue)) => make(queue, call).map(|line| vec![line]),
@@ -80,7 +81,14 @@ fn make(queue: &mut Queue, call: Call) -> Result<String, Refusal> {
             other => format!("{other:?}"),
         },
         Call::Poll(now) => queue.poll(at(now))?.map_or("nothing".into(), packet),
-        Call::PollNack(now) => nack(queue.poll_nack(at(now))?),
+        Call::PollNack(now) => listed("nack", queue.poll_nack(at(now))?),
+        Call::NackWire(now, places) => {
+            let mut out = lent(places, 4 * queue.config().max_gaps);
+            match queue.nack_wire_into(at(now), &mut out)? {
+                0 => "nothing".into(),
+                bytes => format!("wire {}", hex(&out[..bytes])),
+            }
+        }
         Call::TimeoutReceive(now) => timeout(queue.timeout_receive(at(now))?),
         Call::TimeoutNack(now) => timeout(queue.timeout_nack(at(now))?),
         Call::RtxStats => rtx_stats(queue)?,
@@ -88,7 +96,7 @@ fn make(queue: &mut Queue, call: Call) -> Result<String, Refusal> {
             Some(number) => format!("highest {number}"),
             None => "none".into(),
         },
-        Call::Open(_) | Call::State => unreachable!("answered by the host"),
+        Call::Open(_) | Call::State | Call::ReadNacks(..) => unreachable!("answered by the host"),
     })
 }
 
@@ -106,11 +114,22 @@ fn packet(packet: Packet<'_>) -> String {
     )
 }
 
-fn nack(numbers: &[u16]) -> String {
+/// So many places, but not more than the call asks for: it takes a longer output alike.
+fn lent<T: Clone + Default>(places: u64, enough: usize) -> Vec<T> {
+    vec![T::default(); usize::try_from(places).unwrap_or(enough).min(enough)]
+}
+
+fn read_nacks(places: u64, entries: &[u8]) -> Result<String, Refusal> {
+    let mut numbers = lent(places, 17 * (entries.len() / 4));
+    let many = read_nacks_into(entries, &mut numbers)?;
+    Ok(listed("numbers", &numbers[..many]))
+}
+
+fn listed(word: &str, numbers: &[u16]) -> String {
     if numbers.is_empty() {
         return "nothing".into();
     }
-    numbers.iter().fold("nack".to_string(), |line, number| format!("{line} {number}"))
+    numbers.iter().fold(word.to_string(), |line, number| format!("{line} {number}"))
 }
 
 fn timeout(timeout: Option<Duration>) -> String {

@@ -13,7 +13,7 @@ use Rattle.rtx_state.specs.Repair.{rtxInRange}
 use Rattle.rtx_state.specs.RoundTrip.{sampledRtt}
 use Rattle.rtx_state.specs.Drift.{smoothed, recurrence}
 use Rattle.config.specs.Timings.{nackTimings}
-use Rattle.config.specs.Valid.{settingsValid, sendersValid}
+use Rattle.config.specs.Valid.{mostAttempts, modeValid, settingsValid, sendersValid}
 use Rattle.rtp_packet.specs.Datagram.{datagramRefusal, wrongPadding}
 use Rattle.rtp_packet.specs.Header.{headerLength, extensionStart, extensionLength, bit, payloadOf, payloadEnd, paddingLength, bigEndian}
 use Rattle.rtp_packet.specs.Original.{originalRefusal, originalNumber, originalPayload}
@@ -35,7 +35,7 @@ use Rattle.book.proofs.rows.Statement.{statement}
 use Rattle.book.proofs.rows.Tie as tie
 
 returns : tie.Need-returns
-unfolding zipWith eq ofInt le ofBits add mul sub flat blocks laid ascends padded over guessed orElse lossInRange recordReceived jitterInRange rtxInRange sampledRtt settingsValid sendersValid datagramRefusal wrongPadding headerLength extensionStart extensionLength bit payloadOf payloadEnd paddingLength bigEndian originalRefusal originalNumber originalPayload taken answered did accepted every? some? following keep mediaEntry extendedTimestamp extendedNumber mediaPlace passed afterQueued heard insertSorted afterMedia withinDepth lastAfter countReceived jitterAfter newState numberOf lastTimestampOf highestOf extended waits placeOf gapsAfter gapsFrom between below fresh estimateIn timingsIn dueAt nackTimings write lengthsFit entriesLaid payloadsLaid gapsLaid rememberedLaid parse entriesOf gapsOf rememberedOf refusal sessionRefusal refuseIf sessionSound configValid callRefusal mediaRefusal clockRefusal countRefusal mediaValues tooManyGaps packetRefusal sound countsFit queueSound lastSound returnedSound countersSound boundsOf fieldsSound listsSound atMost notPassed byClock B.expected B.accounted B.enter B.onMedia B.highest B.empty B.withinDepth B.arrive B.spanAfter B.pushOut B.forgottenBy calls call hear answer srttIn recurrence smoothed RowsHold sort
+unfolding zipWith eq ofInt le ofBits add mul sub flat blocks laid ascends padded over guessed orElse lossInRange recordReceived jitterInRange rtxInRange sampledRtt mostAttempts modeValid settingsValid sendersValid datagramRefusal wrongPadding headerLength extensionStart extensionLength bit payloadOf payloadEnd paddingLength bigEndian originalRefusal originalNumber originalPayload taken answered did accepted every? some? following keep mediaEntry extendedTimestamp extendedNumber mediaPlace passed afterQueued heard insertSorted afterMedia withinDepth lastAfter countReceived jitterAfter newState numberOf lastTimestampOf highestOf extended waits placeOf gapsAfter gapsFrom between below fresh estimateIn timingsIn dueAt nackTimings write lengthsFit entriesLaid payloadsLaid gapsLaid rememberedLaid parse entriesOf gapsOf rememberedOf refusal sessionRefusal refuseIf sessionSound configValid callRefusal mediaRefusal clockRefusal countRefusal mediaValues tooManyGaps packetRefusal sound countsFit queueSound lastSound returnedSound countersSound boundsOf fieldsSound listsSound atMost notPassed byClock B.expected B.accounted B.enter B.onMedia B.highest B.empty B.withinDepth B.arrive B.spanAfter B.pushOut B.forgottenBy calls call hear answer srttIn recurrence smoothed RowsHold sort
 returns c = refl
 
 pub rows-spec : {M : Type 1} → statement M

@@ -8,6 +8,7 @@ use borrow.Author.Tests.{lt-ltb, le-leb, lt-leb, leb-false}
 use lib.Dec.{T, leb, ltb, le→leb, nltb→le}
 use lib.ListN.{length, drop, length-drop, length-append}
 use Rattle.rtp.specs.declared.opt.Opt.the-variants.{Some}
+use Rattle.config.specs.declared.RtpInboundStreamSortedQueueMode.{RtpInboundStreamSortedQueueMode}
 use Rattle.config.specs.declared.RtpInboundQueueMode.the-variants.{Passthrough, SortedQueue}
 use Rattle.config.specs.declared.Settings.{Settings}
 use Rattle.model.specs.Lists.{following, keep, leading, trailing, every?}
@@ -57,13 +58,13 @@ clears now h s l many = rw (at-far h s l many)
 
 -- ---- numbers lost
 
-lost-below : (w : ℕ) (l : List Gap) → T (every? (λ (g : Gap). ltb (g .number) w) (lostBelow SortedQueue w l))
+lost-below : (sorted : RtpInboundStreamSortedQueueMode) (w : ℕ) (l : List Gap) → T (every? (λ (g : Gap). ltb (g .number) w) (lostBelow (SortedQueue sorted) w l))
 unfolding lostBelow gapsBelow below
-lost-below w l = every-of-each (λ (g : Gap). ltb (g .number) w) (λ g t. t) (each-kept (λ (g : Gap). ltb (g .number) w) l)
+lost-below sorted w l = every-of-each (λ (g : Gap). ltb (g .number) w) (λ g t. t) (each-kept (λ (g : Gap). ltb (g .number) w) l)
 
-left-from : (w : ℕ) (l : List Gap) → T (every? (λ (g : Gap). leb w (g .number)) (leftFrom SortedQueue w l))
+left-from : (sorted : RtpInboundStreamSortedQueueMode) (w : ℕ) (l : List Gap) → T (every? (λ (g : Gap). leb w (g .number)) (leftFrom (SortedQueue sorted) w l))
 unfolding leftFrom gapsFrom below
-left-from w l = every-of-each (λ (g : Gap). leb w (g .number)) (λ g t. le→leb w (g .number) (nltb→le (g .number) w t)) (each-kept (λ (g : Gap). not (ltb (g .number) w)) l)
+left-from sorted w l = every-of-each (λ (g : Gap). leb w (g .number)) (λ g t. le→leb w (g .number) (nltb→le (g .number) w t)) (each-kept (λ (g : Gap). not (ltb (g .number) w)) l)
 
 module _ (p : Gap → Bool) where
   each-leading : (l : List Gap) → T (every? p (leading p l))
@@ -128,7 +129,7 @@ shared-rules = record {
   given-up = given-up;
   first-left = first-left;
   in-two = λ set l. halves _ l;
-  none-given-up = λ set l. (refl, refl);
+  none-given-up = λ sorted set l. (refl, refl);
   remembered = remembered;
   all-remembered = all-remembered;
 }

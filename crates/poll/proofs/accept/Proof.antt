@@ -3,7 +3,7 @@ use mathlib.Core.Path.{_∙_}
 use borrow.Author.Tests.{not-true, not-false}
 use Rattle.model.specs.Contract.{stored}
 use Rattle.poll.specs.Answers.{pollAnswer}
-use Rattle.poll.proofs.Polling.{drains, nothing-out, is-handing, is-lost, packet-out}
+use Rattle.poll.proofs.Polling.{drains, nothing-out, is-handing, is-lost, is-delay, packet-out}
 use borrow.Author.Needs.{needs}
 use Rattle.poll.proofs.accept.Statement.{statement}
 use Rattle.poll.proofs.accept.Tie as tie
@@ -32,7 +32,13 @@ hand-out-requires c κs =
     let m = stored (a .s) (a .entries .now) (a .payloads .now) (a .gaps .now) (a .remembered .now) in
     let d = c .before .before .before .before .before .before .before .before .before .drain in (
       is-handing (a .instant) m (s .pre .0) (a .effect) (s .pre .1 .0) (a .out .now) _ _ (d .ensures .0) (d .ensures .1) (not-false _ (c .before .before .before .before .before .if1 .left)),
-      (s .pre .1 .1, is-lost (a .instant) m (s .pre .0) (a .effect) (s .pre .1 .0) (a .out .now) _ _ (d .ensures .0) (d .ensures .1) (not-false _ (c .before .before .before .before .before .if1 .left))),
+      (
+        s .pre .1 .1,
+        (
+          is-lost (a .instant) m (s .pre .0) (a .effect) (s .pre .1 .0) (a .out .now) _ _ (d .ensures .0) (d .ensures .1) (not-false _ (c .before .before .before .before .before .if1 .left)),
+          is-delay (a .instant) m (s .pre .0) (a .effect) (s .pre .1 .0) (a .out .now) _ _ (d .ensures .0) (d .ensures .1) (not-false _ (c .before .before .before .before .before .if1 .left)),
+        ),
+      ),
     )
 
 same-length-2 : tie.Need-same-length-2

@@ -24,7 +24,7 @@ returns c =
 returns-2 : tie.Need-returns-2
 unfolding givenUpIn
 returns-2 c =
-    let m : c .before .before .before .before .before .args .q .config .settings .mode ≡ SortedQueue = c .enum-told2 .given .1 in
+    let m : c .before .before .before .before .before .args .q .config .settings .mode ≡ SortedQueue (c .enum-told2 .given .0 .0) = c .enum-told2 .given .1 in
     rw m
 
 pub given-up-spec : {M : Type 1} → statement M

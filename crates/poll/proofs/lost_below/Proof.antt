@@ -24,7 +24,7 @@ returns c =
 returns-2 : tie.Need-returns-2
 unfolding lostBelow
 returns-2 c =
-    let m : c .before .before .before .before .before .before .args .q .config .settings .mode ≡ SortedQueue = c .before .enum-told2 .given .1 in
+    let m : c .before .before .before .before .before .before .args .q .config .settings .mode ≡ SortedQueue (c .before .enum-told2 .given .0 .0) = c .before .enum-told2 .given .1 in
     rw m (c .count-below .ensures)
 
 pub lost-below-spec : {M : Type 1} → statement M

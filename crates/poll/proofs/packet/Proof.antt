@@ -11,13 +11,10 @@ truncated-requires c κs = search needs
 truncated-requires-2 : tie.Need-truncated-requires-2
 truncated-requires-2 c κs = search needs
 
-delay-of-requires : tie.Need-delay-of-requires
-delay-of-requires c κs = search needs
-
 returns : tie.Need-returns
 unfolding Calls.packetOf Answers.packetOf
-returns c payload e = rw (c .before .before .before .truncated .ensures, c .before .before .truncated2 .ensures, c .delay-of .ensures, e)
+returns c payload e = rw (c .before .before .truncated .ensures, c .before .truncated2 .ensures, ← (c .before .before .before .before .before .pre), e)
 
 pub packet-spec : {M : Type 1} → statement M
 packet-spec =
-    tie.close (tie.spec truncated-requires truncated-requires-2 delay-of-requires returns)
+    tie.close (tie.spec truncated-requires truncated-requires-2 returns)

@@ -10,9 +10,22 @@ depth-valid-requires c κs = search needs
 gaps-valid-requires : tie.Need-gaps-valid-requires
 gaps-valid-requires c κs = search needs
 
+max-attempts-requires : tie.Need-max-attempts-requires
+max-attempts-requires c κs = search needs
+
+is-valid-requires : tie.Need-is-valid-requires
+is-valid-requires c κs = search needs
+
 returns : tie.Need-returns
 unfolding settingsValid
-returns c = rw (c .before .before .before .before .before .before .gaps-valid .ensures, c .before .before .before .before .before .before .before .depth-valid .ensures)
+returns c = rw (c .is-valid .ensures, c .before .before .max-attempts .ensures, c .before .before .before .before .before .before .before .gaps-valid .ensures, c .before .before .before .before .before .before .before .before .depth-valid .ensures)
 
 pub is-valid-spec : {M : Type 1} → statement M
-is-valid-spec = tie.close (tie.spec depth-valid-requires gaps-valid-requires returns)
+is-valid-spec =
+    tie.close
+    (tie.spec
+    depth-valid-requires
+    gaps-valid-requires
+    max-attempts-requires
+    is-valid-requires
+    returns)

@@ -1,7 +1,13 @@
 -- `accept` meets its contract: `drain`, then the NACKs.
 use mathlib.Core.Path.{ap, _∙_}
+use mathlib.Core.List.{List, map}
+use native.Mathlib.Omega.{arith}
+use lib.ListN.{length}
+use Rattle.words.specs.Words.{over}
+use Rattle.model.specs.Records.{Gap}
+use Rattle.model.specs.Rules.{truncated}
 use Rattle.model.specs.Calls.{nackAnswer}
-use Rattle.poll.proofs.Nacking.{left-held, left-fits, left-instants, left-none-full, left-count, left-words, left-out}
+use Rattle.poll.proofs.Nacking.{due-is, left-held, left-fewer, left-instants, left-none-full, left-nacked}
 use borrow.Author.Needs.{needs}
 use Rattle.poll.proofs.nack.accept.Statement.{statement}
 use Rattle.poll.proofs.nack.accept.Tie as tie
@@ -14,8 +20,8 @@ poll-nacks-requires c κs =
     let s = c .before .before .before .before .before .before .before .before in
     let a = s .args in
     let d = c .before .before .before .before .drain .ensures in (
-      left-held (a .instant) (a .s) (a .gaps .now) _ (a .given) (a .timings) (s .pre .0) _ (d .0) (d .1),
-      (left-fits (a .instant) (a .s) (a .gaps .now) _ (a .given) (a .timings) (s .pre .0) _ (d .0) (d .1) (a .out .now) (s .pre .1), (left-instants (a .instant) (a .s) (a .gaps .now) _ (a .given) (a .timings) (s .pre .0) _ (d .0) (d .1), (left-none-full (a .instant) (a .s) (a .gaps .now) _ (a .given) (a .timings) (s .pre .0) _ (d .0) (d .1), s .pre .0 .small))),
+      left-held (a .instant) (a .s) (a .gaps .now) _ (a .found) (s .pre .0) _ (d .0) (d .1),
+      (omega (arith, left-fewer (a .instant) (a .s) (a .gaps .now) _ (a .found) (s .pre .0) _ (d .0) (d .1), s .pre .1), (left-instants (a .instant) (a .s) (a .gaps .now) _ (a .found) (s .pre .0) _ (d .0) (d .1), (left-none-full (a .instant) (a .s) (a .gaps .now) _ (a .found) (s .pre .0) _ (d .0) (d .1), s .pre .0 .small))),
     )
 
 answer-of-requires : tie.Need-answer-of-requires
@@ -32,9 +38,10 @@ returns c =
     let s = c .before .before .before .before .before .before .before .before .before .before .before .before .before .before in
     let a = s .args in
     let d = c .before .before .before .before .before .before .before .before .before .before .drain .ensures in
+    let due = due-is (a .instant) (a .s) (a .gaps .now) _ (a .found) (s .pre .0) _ (d .0) (d .1) in
     let p = c .before .before .before .before .before .poll-nacks .ensures in (
-      d .0,
-      (c .answer-of .ensures ∙ ap nackAnswer (left-count (a .instant) (a .s) (a .gaps .now) _ (a .given) (a .timings) (s .pre .0) _ (d .0) (d .1) _ (p .0)), (left-words (a .instant) (a .s) (a .gaps .now) _ (a .given) (a .timings) (s .pre .0) _ (d .0) (d .1) _ (p .1 .0), left-out (a .instant) (a .s) (a .gaps .now) _ (a .given) (a .timings) (s .pre .0) _ (d .0) (d .1) (a .out .now) _ (p .1 .1))),
+      left-nacked (a .instant) (a .s) (a .gaps .now) _ (a .found) (s .pre .0) _ (d .0) (d .1) _ (p .1 .0),
+      (c .answer-of .ensures ∙ ap nackAnswer (p .0 ∙ ap length due), p .1 .1 ∙ ap (λ (l : List Gap). over (map truncated l) (a .out .now)) due),
     )
 
 pub accept-spec : {M : Type 1} → statement M

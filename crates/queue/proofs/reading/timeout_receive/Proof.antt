@@ -35,7 +35,7 @@ settle-requires : tie.Need-settle-requires
 settle-requires c κs = let s = c .before .before .before .before .before .before .before .before .before .before .before .before .before .before in let a = s .args in timely-sound (stored (a .session) (a .entries .now) (a .payloads .now) (a .gaps .now) (a .remembered .now)) (a .now) (sym (c .before .before .before .before .before .session-and-clock-refusal .ensures) ∙ c .before .before .before .before .if1 .left)
 
 receive-timeout-requires : tie.Need-receive-timeout-requires
-receive-timeout-requires c κs = let s = c .before .before .before .before .before .before .before .before .before .before .before .before .before .before .before .before .before .before .before .before .before .before .before .before in let a = s .args in let k = receive-timed (stored (a .session) (a .entries .now) (a .payloads .now) (a .gaps .now) (a .remembered .now)) (a .now) (sym (c .before .before .before .before .before .before .before .before .before .before .before .before .before .before .before .session-and-clock-refusal .ensures) ∙ c .before .before .before .before .before .before .before .before .before .before .before .before .before .before .if1 .left) _ _ _ _ (c .before .before .before .before .before .before .before .before .before .settle .ensures) in (k .0, (k .1, k .2))
+receive-timeout-requires c κs = let s = c .before .before .before .before .before .before .before .before .before .before .before .before .before .before .before .before .before .before .before .before .before .before .before .before in let a = s .args in let k = receive-timed (stored (a .session) (a .entries .now) (a .payloads .now) (a .gaps .now) (a .remembered .now)) (a .now) (sym (c .before .before .before .before .before .before .before .before .before .before .before .before .before .before .before .session-and-clock-refusal .ensures) ∙ c .before .before .before .before .before .before .before .before .before .before .before .before .before .before .if1 .left) _ _ _ _ (c .before .before .before .before .before .before .before .before .before .settle .ensures) in (k .0, (k .1, (k .2, k .3)))
 
 same-length-5 : tie.Need-same-length-5
 same-length-5 c = search needs

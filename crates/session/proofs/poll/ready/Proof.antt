@@ -24,9 +24,10 @@ returns c =
 
 returns-2 : tie.Need-returns-2
 returns-2 c =
-    let m : c .before .before .before .before .before .args .q .config .settings .mode ≡ SortedQueue = c .before .enum-told2 .given .1 in
     let s = c .before .before .before .before .before in
-    c .sorted-ready .ensures ∙ ap (λ (x : RtpInboundQueueMode). readyIn x (s .args .q .config .settings) (s .args .q .last) (s .args .now) (s .args .timestamp .0)) (sym m)
+    let q = s .args .q in
+    let m : q .config .settings .mode ≡ SortedQueue (c .before .enum-told2 .given .0 .0) = c .before .enum-told2 .given .1 in
+    c .sorted-ready .ensures _ ∙ ap (λ (x : RtpInboundQueueMode). readyIn x (q .config .settings .«clock_rate») (s .args .delay) (q .last) (s .args .now) (s .args .timestamp .0)) (sym m)
 
 pub ready-spec : {M : Type 1} → statement M
 ready-spec = tie.close (tie.spec enum-told enum-told-2 sorted-ready-requires returns returns-2)

@@ -15,34 +15,30 @@ enum-told c = search needs
 enum-known-last : tie.Need-enum-known-last
 enum-known-last c = search needs
 
-target-delay-requires : tie.Need-target-delay-requires
-target-delay-requires c κs = search needs
-
 max-timestamp-requires : tie.Need-max-timestamp-requires
 max-timestamp-requires c κs =
-    let s = c .before .before .before .before .before .before in
+    let s = c .before .before .before .before .before in
     let q = s .args .q in
-    let r = c .before .before .last .given .0 .0 in
-    let e : q .last ≡ Some r = c .before .before .last .given .1 in
+    let r = c .before .last .given .0 .0 in
+    let e : q .last ≡ Some r = c .before .last .given .1 in
     let l = last-in (q .clock) (q .last) r e (s .pre .1 .1) in
     let u = usable (q .config .settings) (s .pre .1 .0) in
-    let d = c .target-delay .ensures in
-    (omega (arith, l .0, s .pre .0), l .1, u .rate, omega (arith, d, u .delay), s .pre .0 .1)
+    (omega (arith, l .0, s .pre .0), l .1, u .rate, s .pre .0 .2, s .pre .0 .1)
 
 reaches-requires : tie.Need-reaches-requires
 reaches-requires c κs = search needs
 
 returns : tie.Need-returns
 unfolding readyIn
-returns c =
+returns c sorted =
     let m : c .before .before .before .before .args .q .last ≡ None = c .enum-told .given .1 in
     rw m
 
 returns-2 : tie.Need-returns-2
 unfolding readyIn
-returns-2 c =
-    let m : c .before .before .before .before .before .before .before .before .args .q .last ≡ Some (c .before .before .before .before .last .given .0 .0) = c .before .before .before .before .last .given .1 in
-    rw m (c .reaches .ensures ∙ rw (c .before .max-timestamp .ensures, c .before .before .target-delay .ensures))
+returns-2 c sorted =
+    let m : c .before .before .before .before .before .before .before .args .q .last ≡ Some (c .before .before .before .last .given .0 .0) = c .before .before .before .last .given .1 in
+    rw m (c .reaches .ensures ∙ rw (c .before .max-timestamp .ensures))
 
 pub sorted-ready-spec : {M : Type 1} → statement M
 sorted-ready-spec =
@@ -50,7 +46,6 @@ sorted-ready-spec =
     (tie.spec
     enum-told
     enum-known-last
-    target-delay-requires
     max-timestamp-requires
     reaches-requires
     returns

@@ -1,0 +1,2 @@
+-- The settings line beside the opening.
+pub mod Opens

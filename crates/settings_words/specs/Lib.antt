@@ -1,0 +1,2 @@
+-- Settings as words.
+pub mod Words
