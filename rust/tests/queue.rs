@@ -90,6 +90,25 @@ fn a_loss_is_nacked_and_repaired() -> Result<(), Refusal> {
     Ok(())
 }
 
+/// The shortest delay while nothing asks for more; then twice the time of one NACK, which is what a loss of 0.01 takes for 0.99.
+#[test]
+fn a_dynamic_delay_follows_the_round_trip() -> Result<(), Refusal> {
+    let mut config = Config::pcmu(1);
+    (config.mode, config.rtx) = (Mode::Dynamic(Dynamic::default()), Some(Rtx::new(97, 9)));
+    let mut queue = Queue::open(&config)?;
+    queue.push(ms(0), &datagram(0, 10, 0, 1, &[10]))?;
+    assert_eq!(queue.timeout_receive(ms(0))?, Some(ms(10)));
+    assert_eq!(queue.poll(ms(10))?.expect("due").delay, ms(10));
+    queue.push(ms(40), &datagram(0, 12, 320, 1, &[12]))?;
+    assert_eq!(queue.poll_nack(ms(45))?, [11]);
+    assert_eq!(queue.push_rtx(ms(55), &datagram(97, 4, 160, 9, &[0, 11, 11]))?, Repair::Recovered);
+    // a round trip of 10 ms: 10 + 1.5 * 5, twice
+    assert_eq!(queue.timeout_receive(ms(55))?, Some(ms(0)));
+    queue.push(ms(60), &datagram(0, 13, 480, 1, &[13]))?;
+    assert_eq!(queue.poll(ms(75))?.expect("due").delay, ms(35));
+    Ok(())
+}
+
 #[test]
 fn jitter_is_told_and_the_smaller_timeout() -> Result<(), Refusal> {
     let mut config = Config::pcmu(1);

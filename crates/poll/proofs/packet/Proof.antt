@@ -13,7 +13,7 @@ truncated-requires-2 c κs = search needs
 
 returns : tie.Need-returns
 unfolding Calls.packetOf Answers.packetOf
-returns c payload e = rw (c .before .before .truncated .ensures, c .before .truncated2 .ensures, ← (c .before .before .before .pre), e)
+returns c payload e = rw (c .before .before .truncated .ensures, c .before .truncated2 .ensures, ← (c .before .before .before .before .before .pre), e)
 
 pub packet-spec : {M : Type 1} → statement M
 packet-spec =
