@@ -206,7 +206,7 @@ mod tests {
 
     #[test]
     fn numbers_and_table_agree() {
-        for (refusal, number) in Refusal::all().zip((1..=16).chain(20..)) {
+        for (refusal, number) in Refusal::all().zip((1..=17).chain(20..)) {
             assert_eq!(refusal.number(), number);
             assert_eq!(Refusal::from_number(u64::from(refusal.number())), Some(refusal));
         }
