@@ -44,7 +44,7 @@ extern "C" {
 
 /* The version of this header. `bizhgemu_version()` has that of the archive; take both from one commit (docs/VERSIONS.md). */
 #define BIZHGEMU_VERSION_MAJOR 0
-#define BIZHGEMU_VERSION_MINOR 2
+#define BIZHGEMU_VERSION_MINOR 3
 #define BIZHGEMU_VERSION_PATCH 0
 #define BIZHGEMU_VERSION (UINT64_C(1000000) * BIZHGEMU_VERSION_MAJOR + 1000 * BIZHGEMU_VERSION_MINOR + BIZHGEMU_VERSION_PATCH)
 
@@ -86,7 +86,7 @@ enum bizhgemu_refusal {
 	BIZHGEMU_REFUSED_GAPS_FULL = 12,          /* more gaps than max_gaps would be open */
 	BIZHGEMU_REFUSED_ENTRIES_FULL = 13,       /* repair with 2 * max_entries packets waiting */
 	BIZHGEMU_REFUSED_COUNT = 14,              /* a number, timestamp or counter would pass 2^52 - 1, or a NACK count 2^32 - 1 */
-	BIZHGEMU_REFUSED_OUTPUT = 15,             /* lent output under 320 bytes, max_gaps numbers, 4 * max_gaps bytes; settings line of 145; list under 17 numbers for each four bytes */
+	BIZHGEMU_REFUSED_OUTPUT = 15,             /* lent output under 320 bytes, max_gaps numbers, 4 * max_gaps bytes; settings line of 145; list under 17 numbers for each four bytes; of a burst: ends that fall or pass the buffer, a short list */
 	BIZHGEMU_REFUSED_SESSION = 16,            /* session or storage that no call leaves, as far as row 16 sees it, or not of these settings */
 	BIZHGEMU_REFUSED_NACK_ENTRIES = 17,       /* entries of a NACK that are not a multiple of 4 bytes */
 	BIZHGEMU_REFUSED_SETTINGS_LINE = 20,      /* settings line of another length or without its line feed, or a field that is no number */

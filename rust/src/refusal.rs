@@ -36,7 +36,7 @@ pub enum Refusal {
     /// 14: a number, timestamp or counter would pass 2^52 - 1, or a NACK count 2^32 - 1.
     Count,
     /// 15: the lent output is too short. [`Queue`](crate::Queue) never lends one that is, but for yours in
-    /// [`nack_wire_into`](crate::Queue::nack_wire_into).
+    /// [`nack_wire_into`](crate::Queue::nack_wire_into); or, of a burst, an end is below the one before it or past the buffer.
     Output,
     /// 16: session or storage is damaged. [`Queue`](crate::Queue) owns both, so memory was overwritten from elsewhere, or floats
     /// were not rounded to nearest.
@@ -206,7 +206,7 @@ mod tests {
 
     #[test]
     fn numbers_and_table_agree() {
-        for (refusal, number) in Refusal::all().zip((1..=16).chain(20..)) {
+        for (refusal, number) in Refusal::all().zip((1..=17).chain(20..)) {
             assert_eq!(refusal.number(), number);
             assert_eq!(Refusal::from_number(u64::from(refusal.number())), Some(refusal));
         }

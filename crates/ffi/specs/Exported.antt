@@ -111,4 +111,4 @@ lengths entries gaps =
 
 -- ---- the version of the boundary: 1,000,000 · major + 1,000 · minor + patch
 abbrev pub VERSION : ℕ
-VERSION = 2000
+VERSION = 3000

@@ -45,7 +45,7 @@ use queue::reading;
 pub mod settings;
 
 // The version of this library, as 1,000,000 · major + 1,000 · minor + patch; docs/VERSIONS.md says what changes it.
-pub const VERSION: u64 = 2000;
+pub const VERSION: u64 = 3000;
 
 // A refused opening gives a session of zeros.
 #[no_mangle]
