@@ -76,18 +76,20 @@ handed-out-requires c κs =
     let f = popped (remembered (drained c .before) .before) in
     omega (arith, few f, start f .pre .0 .lost-fits)
 
-sub-t28 : tie.Need-sub-t28
-sub-t28 c =
+sub-t29 : tie.Need-sub-t29
+sub-t29 c =
     let f = popped (remembered (drained (c .before .before) .before) .before) in
     start f .pre .0 .some
 
-sub-t29 : tie.Need-sub-t29
-sub-t29 c =
+sub-t30 : tie.Need-sub-t30
+sub-t30 c =
     let f = popped (remembered (drained (c .before .before .before) .before) .before) in
     few f
 
 packet-requires : tie.Need-packet-requires
-packet-requires c κs = search needs
+packet-requires c κs =
+    let f = popped (remembered (drained (c .before .before .before) .before) .before) in
+    start f .pre .1 .1 .1
 
 same-length : tie.Need-same-length
 same-length c =
@@ -136,8 +138,8 @@ hand-out-spec =
     remember-requires
     drain-requires
     handed-out-requires
-    sub-t28
     sub-t29
+    sub-t30
     packet-requires
     same-length
     same-length-2
