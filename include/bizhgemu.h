@@ -44,7 +44,7 @@ extern "C" {
 
 /* The version of this header. `bizhgemu_version()` has that of the archive; take both from one commit (docs/VERSIONS.md). */
 #define BIZHGEMU_VERSION_MAJOR 0
-#define BIZHGEMU_VERSION_MINOR 2
+#define BIZHGEMU_VERSION_MINOR 3
 #define BIZHGEMU_VERSION_PATCH 0
 #define BIZHGEMU_VERSION (UINT64_C(1000000) * BIZHGEMU_VERSION_MAJOR + 1000 * BIZHGEMU_VERSION_MINOR + BIZHGEMU_VERSION_PATCH)
 

@@ -2,7 +2,7 @@ use crate::ffi;
 
 /// The version of this crate, and of the header and the archive that go with it: 1,000,000 · major + 1,000 · minor + patch.
 /// `docs/VERSIONS.md` says what changes it.
-pub const VERSION: u64 = 2_000;
+pub const VERSION: u64 = 3_000;
 
 /// The version of the linked archive.
 pub fn library_version() -> u64 {
