@@ -1,6 +1,7 @@
 -- `settings_are_kept`: as the line's numbers are; and each mode's words fit it, as they are computed.
 use mathlib.Core.Path.{_≡_, refl}
-use mathlib.Core.Bool.{true}
+use mathlib.Core.Bool.{true, _&&_, _||_}
+use lib.Dec.{eqb, ltb}
 use Rattle.config.specs.declared.Settings.{Settings}
 use Rattle.config.specs.declared.RtpInboundQueueMode.{RtpInboundQueueMode}
 use Rattle.config.specs.declared.RtpInboundQueueMode.the-variants.{Passthrough, SortedQueue}
@@ -15,12 +16,13 @@ use Rattle.settings_words.proofs.settings_are_kept.Tie as tie
 
 fits : (s : Settings) → modeFits (wordsOf s) ≡ true
 unfolding modeFits wordsOf modeNumber dynamicOf noDynamic
-fits s = go (s .mode) s
+fits s = go (s .mode)
   where
-    go : (m : RtpInboundQueueMode) (s : Settings) → modeFits (wordsOf (record { mode = m; «clock_rate» = s .«clock_rate»; «max_entries» = s .«max_entries»; «max_gaps» = s .«max_gaps»; delay = s .delay; «initial_nack_delay» = s .«initial_nack_delay»; «default_nack_resend_delay» = s .«default_nack_resend_delay»; «max_nack_attempts» = s .«max_nack_attempts» })) ≡ true
-    go Passthrough s = refl
-    go (SortedQueue Fixed) s = refl
-    go (SortedQueue (Dynamic d)) s = refl
+    go : (m : RtpInboundQueueMode)
+        → (let d = dynamicOf m in eqb (modeNumber m) 2 || (ltb (modeNumber m) 2 && (eqb (d .min) 0 && (eqb (d .max) 0 && eqb (d .«target_recovery») 0)))) ≡ true
+    go Passthrough = refl
+    go (SortedQueue Fixed) = refl
+    go (SortedQueue (Dynamic d)) = refl
 
 back : (s : Settings) → settingsOf (wordsOf s) ≡ s
 unfolding settingsOf wordsOf settingsIn numbersOf
