@@ -1,9 +1,10 @@
 """The profiles of tools/generate: each writes a session, or a few, aimed at some rules of 01."""
 
+import itertools
 import random
 
-from aim import Model
-from traces import FIELDS, MAX_INSTANT, datagram, hexed, repair_payload
+from aim import Model, attempts, loss_after, ten_thousandths
+from traces import DYNAMIC_FIELDS, FIELDS, MAX_INSTANT, datagram, hexed, opening, repair_payload
 
 MS = 10**6
 LONGEST = 320
@@ -34,7 +35,7 @@ class Writer:
     def open(self, **given):
         pick, draw = self.pick, self.random.randrange
         settings = dict(
-            mode=pick(0, 1, 1), clock_rate=pick(8000, 8000, 16000, 48000, 90000, 1, 1000000, draw(1, 1000001)),
+            mode=pick(0, 0, 1, 1, 2), clock_rate=pick(8000, 8000, 16000, 48000, 90000, 1, 1000000, draw(1, 1000001)),
             depth=pick(1, 2, 3, 5, 20, 100, 1024, draw(1, 1025)), max_gaps=pick(999, 999, 1000, 1500, 4096, draw(999, 4097)),
             delay=pick(0, 20 * MS, 100 * MS, 100 * MS, 60000 * MS, draw(200 * MS)),
             initial=pick(0, 5 * MS, 5 * MS, 60000 * MS, draw(10 * MS)), resend=pick(0, 20 * MS, 20 * MS, 60000 * MS, draw(30 * MS)),
@@ -42,7 +43,12 @@ class Writer:
             rtx=pick(0, 1, 1), rtx_pt=pick(0, 97, 127), rtx_ssrc=draw(2**32))
         settings.update(given)
         settings.update(depth=min(settings["depth"], self.most_depth), max_gaps=min(settings["max_gaps"], self.most_gaps))
-        self.line("open " + " ".join(str(settings[field]) for field in FIELDS))
+        if settings["mode"] == 2:
+            shortest = settings["delay"] if "delay" in given else pick(0, 10 * MS, draw(100 * MS))
+            longest = pick(shortest, max(shortest, 400 * MS), 60000 * MS)
+            settings = dict(dict(min=shortest, max_delay=longest, target=pick(9900, 9999, 0, draw(10000))), **settings)
+            settings["max"] = min(settings["max"], 4)
+        self.line(opening(settings))
         self.model = Model(settings)
 
     def payload(self):
@@ -59,13 +65,22 @@ class Writer:
         return dict(marker=self.pick(0, 1), csrcs=self.pick(0, 0, 1, 15), extension=self.pick(None, None, 0, 1, 3),
                     padding=self.pick(0, 0, 1, 4, 255))
 
+    def media_datagram(self, number, timestamp, payload=None):
+        m = self.model
+        return datagram(m.pt, number % 2**16, timestamp % 2**32, m.ssrc, self.payload() if payload is None else payload, **self.extras())
+
     def media(self, now, number, timestamp, aim=None, payload=None):
         m = self.model
-        number, timestamp = number % 2**16, timestamp % 2**32
-        data = datagram(m.pt, number, timestamp, m.ssrc, self.payload() if payload is None else payload, **self.extras())
-        self.line(f"media {now} {data.hex()}", aim)
+        self.line(f"media {now} {self.media_datagram(number, timestamp, payload).hex()}", aim)
         if m.clock <= now <= MAX_INSTANT:
-            m.media(now, number, timestamp)
+            m.media(now, number % 2**16, timestamp % 2**32)
+
+    def burst(self, now, datagrams, aim=None, places=None, after=b"", ends=None):
+        """Datagrams in one buffer; `after` stands behind the last of them. The model is the caller's to keep."""
+        if ends is None:
+            ends = list(itertools.accumulate(map(len, datagrams)))
+        places = len(ends) if places is None else places
+        self.line(" ".join(map(str, ("burst", now, places, hexed(b"".join(datagrams) + after), *ends))), aim)
 
     def repair(self, now, number, timestamp, aim=None, payload=None):
         m = self.model
@@ -82,7 +97,9 @@ class Writer:
             self.model.poll(now)
 
     def poll_nack(self, now, aim=None):
-        self.line(f"poll_nack {now}", aim)
+        """As a list of numbers or, one time in three, as entries on the wire."""
+        places = 4 * self.model.max_gaps
+        self.line(self.pick(f"poll_nack {now}", f"poll_nack {now}", f"nack_wire {now} {places}"), aim)
         if self.model.clock <= now <= MAX_INSTANT:
             self.model.poll_nack(now)
 
@@ -189,6 +206,100 @@ def mixture(w):
             w.poll_nack(now)
         else:
             w.nack_at_due() if w.chance(0.5) else w.poll_at_limit()
+        w.look(m.clock)
+
+
+def dynamic(w):
+    """Mode 2: the delay follows jitter, losses and the round trip, between its ends; with repairs that are samples and without."""
+    w.open(mode=2, rtx=w.pick(0, 1, 1, 1), depth=w.pick(5, 20, 100), initial=w.pick(0, 5 * MS), resend=w.pick(0, 20 * MS), max=w.pick(1, 2, 3, 4, 4),
+           min=w.pick(0, 0, 1, 10 * MS), max_delay=w.pick(10 * MS, 400 * MS, 60000 * MS, 60000 * MS), clock_rate=w.pick(8000, 48000, 90000, 1, 1000000))
+    m, ticks = w.model, max(1, w.model.clock_rate // 50)
+    number, timestamp, now = w.random.randrange(2**16), w.random.randrange(2**32), w.random.randrange(2**40)
+    loss, trip, spread = w.pick(0, 0.02, 0.2, 0.6), w.pick(0, 1000, w.random.randrange(80 * MS)), w.pick(1, 2 * MS, 30 * MS, 2000 * MS)
+    for packet in range(w.random.randrange(20, 80)):
+        now = max(m.clock, now + 20 * MS + w.random.randrange(spread) - spread // 2)
+        number, timestamp = number + (w.pick(2, 3) if w.chance(loss) else 1), timestamp + ticks
+        w.media(now, number, timestamp)
+        w.line(f"timeout_receive {m.clock}", "timeout of a dynamic delay")
+        if m.gaps and w.chance(0.6):
+            w.poll_nack(w.later())
+            for missing in list(m.gaps)[:w.pick(0, 1, 1, 2)]:
+                w.repair(m.clock + trip, missing, timestamp - ticks)
+        if w.chance(0.5):
+            w.poll_at_limit()
+        w.poll(m.clock, "poll with a dynamic delay")
+        w.look(m.clock)
+
+
+def attempts_edges(w):
+    """Mode 2: a target at which the loss is just enough for n attempts, or just not; the delay of the next hand-out shows which."""
+    lost = [w.chance(0.5) for _ in range(w.pick(1, 2, 5, w.random.randrange(1, 60)))]
+    if w.chance(0.2):
+        lost = [True] * w.pick(70, 300, 700)
+    share, loss = w.pick(0, 1, 5, 40), 0.0
+    for one in lost:    # a repair that came, and the packet that opened its gap
+        for event in [False] * (1 + share) + ([True] if one else []):
+            loss = loss_after(loss, event)
+    k, n = ten_thousandths(loss), w.pick(1, 2, 3)
+    edge = 10000 - -(-k**n // 10**(4 * n - 4))    # the largest target that k^n meets
+    target = min(9999, max(0, edge + w.pick(0, 0, 1, -1)))
+    w.open(mode=2, rtx=1, depth=20, max=w.pick(2, 3, 4, 4), min=w.pick(0, 10 * MS), max_delay=60000 * MS, target=target, clock_rate=8000, initial=0, resend=0,
+           max_gaps=999)
+    m, number, now = w.model, w.random.randrange(2**16), w.random.randrange(2**40)
+    w.media(now, number, 0)
+    for one in lost:
+        for _ in range(share):
+            w.media(m.clock, m.last[2] + 1, m.last[1], payload=b"")
+        w.media(m.clock, m.last[2] + (2 if one else 1), m.last[1], payload=b"")
+        if one:
+            w.line(f"poll_nack {m.clock}")
+            m.poll_nack(m.clock)
+            w.repair(m.clock + 30 * MS, m.last[2] - 1, m.last[1], payload=b"")
+    met = attempts(ten_thousandths(m.loss), m.target, m.max)
+    side = "on" if target == edge else "a step above" if target == edge + 1 else "off"
+    w.line(f"timeout_receive {m.clock}")
+    w.poll(m.clock + 60000 * MS, f"dynamic delay of {met} attempts, target {side} the edge")
+    w.line("state")
+
+
+def bursts(w):
+    """Dozens of datagrams in one call: new, late, repeated and crooked ones, none at all, and ends or answer lists that are refused."""
+    w.open(depth=w.pick(1, 3, 20, 100), delay=w.pick(0, 20 * MS), initial=w.pick(0, 5 * MS))
+    m, number, timestamp = w.model, w.pick(65530, w.random.randrange(2**16)), w.random.randrange(2**32)
+    if w.chance(0.5):
+        w.media(w.random.randrange(2**30), number, timestamp)
+    for _ in range(w.random.randrange(4, 12)):
+        now, datagrams = w.later(), []
+        for _ in range(w.pick(0, 1, 2, 5, w.random.randrange(40))):
+            at = m.number(number % 2**16) if m.last is None else m.last[2]
+            chosen = w.pick(at + 1, at + 1, at + 1, at + w.pick(2, 3, 20, 1000, 1001), at, at - 1, *list(m.gaps)[:3])
+            timestamp = (m.last[1] if m.last else timestamp) + w.pick(0, 160, 160, w.random.randrange(500))
+            if w.chance(0.15):
+                faults = {fault for fault in ("short", "version", "CSRCs", "padding", "long", "type", "sender") if w.chance(0.3)}
+                datagrams.append(crooked(w, faults, m.pt, m.ssrc, LONGEST) if faults else b"")
+            else:
+                datagrams.append(w.media_datagram(chosen, timestamp))
+                m.media(now, chosen % 2**16, timestamp % 2**32)
+        whole = b"".join(datagrams)
+        ends = list(itertools.accumulate(map(len, datagrams)))
+        if ends and w.chance(0.5):
+            bad = list(ends)
+            at, kind = w.random.randrange(len(ends)), w.random.randrange(3)
+            if kind == 0 and 0 < ends[at]:
+                bad.insert(at + 1, ends[at] - 1)
+                w.burst(now, datagrams, "burst with ends that fall", places=len(bad), ends=bad)
+            elif kind == 1:
+                bad[-1] = len(whole) + w.pick(1, 2**32, 2**64 - 1 - len(whole))
+                w.burst(w.pick(now, 0), datagrams, "burst with an end past the buffer", ends=bad)
+            else:
+                w.burst(w.pick(now, 0), datagrams, "burst with a short answer list", places=len(ends) - 1)
+        w.burst(now, datagrams, "burst" if datagrams else "burst of no datagram", places=len(ends) + w.pick(0, 0, 1, 2**40), after=w.random.randbytes(w.pick(0, 0, 5)))
+        if m.clock and w.chance(0.2):
+            w.burst(m.clock - 1, datagrams[:3], "burst before the clock" if datagrams else None)
+        if w.chance(0.5):
+            w.line("state")
+        for _ in range(w.random.randrange(4)):
+            (w.poll if w.chance(0.6) else w.poll_nack)(w.later())
         w.look(m.clock)
 
 
@@ -432,6 +543,69 @@ def remembered(w):
         w.line("state")
 
 
+def masks(w):
+    """Missing numbers in runs of every shape about the sixteen of a mask, across 65,535 too, asked for on the wire; outputs too short."""
+    w.open(initial=w.pick(0, 0, 5 * MS), resend=w.pick(0, 20 * MS), depth=w.pick(20, 1024), max=w.pick(1, 3, 255), delay=60000 * MS)
+    m, places = w.model, 4 * w.model.max_gaps
+    number = w.pick(65500, 65520, 65535, w.random.randrange(2**16))
+    w.media(w.random.randrange(2**30), number, 0)
+    for _ in range(w.random.randrange(2, 8)):
+        step = w.pick(2, 3, 16, 17, 18, 19, 33, 34, 35, w.random.randrange(2, 80), 500)
+        if len(m.gaps) + step - 1 <= m.max_gaps:
+            w.media(w.later(), m.last[2] + step, m.last[1] + 160)
+        for missing in w.random.sample(list(m.gaps), int(len(m.gaps) * w.pick(0, 0.1, 0.5, 0.9))):
+            (w.repair if m.rtx and w.chance(0.5) else w.media)(m.clock, missing, 5)
+        now = max(m.clock, *m.due_instants()) if m.gaps and w.chance(0.6) else w.later()
+        w.line(f"nack_wire {now} {w.pick(0, places - 1, places - 4)}", "entries for an output too short")
+        if w.chance(0.1):
+            w.line(f"nack_wire {max(0, m.clock - 1)} {places - 1}", "entries for an output too short, before the clock")
+        w.line(f"nack_wire {now} {w.pick(places, places, places + 1, 2**64 - 1)}", "entries of the missing numbers")
+        m.poll_nack(now)
+        w.look(m.clock)
+
+
+def two_cycles(w):
+    """Passthrough: a number stays missing for more than a cycle, so that the 16 bits of two missing ones are next to each other."""
+    w.open(mode=0, initial=0, resend=w.pick(0, 0, 20 * MS), max=255, depth=1, clock_rate=8000, max_gaps=w.pick(999, 1500))
+    m, number = w.model, w.random.randrange(2**16)
+    now = w.random.randrange(2**30)
+    w.media(now, number, 0)
+    w.media(now, number + 3, 0)
+    first, beyond = m.last[2] - 2, m.last[2] - 2 + 2**16 + w.pick(0, 1, 2, 15, 16, 17)
+    while m.last[2] < beyond - 1:
+        w.poll(now)    # else the next packet pushes it out, and what is missing below with it
+        if beyond - 1 - m.last[2] > 400:
+            w.media(now, m.last[2] + 400, m.last[1] + 1, payload=b"")
+            for missing in list(m.gaps)[2:]:
+                w.poll(now)
+                w.media(now, missing, 0, payload=b"")
+        else:
+            w.media(now, m.last[2] + 1, m.last[1] + 1, payload=b"")
+    w.poll(now)
+    w.media(now, beyond + 1, m.last[1] + 1)
+    w.line(f"nack_wire {now} {4 * m.max_gaps}", "entries of numbers a cycle apart" if first in m.gaps else None)
+    m.poll_nack(now)
+    w.line("state")
+    w.poll_nack(w.later())
+    w.look(m.clock)
+
+
+def entries(w):
+    """Entries for the reader: made by a writer and by none, lists of every length, bytes that are no whole entries."""
+    for _ in range(w.random.randrange(100, 200)):
+        count = w.pick(0, 1, 1, 2, 3, w.random.randrange(20), w.random.randrange(120))
+        first = lambda: w.pick(0, 1, 65535, 65520, 65519, w.random.randrange(2**16))
+        mask = lambda: w.pick(0, 1, 2**15, 2**16 - 1, w.random.randrange(2**16))
+        data = b"".join(first().to_bytes(2, "big") + mask().to_bytes(2, "big") for _ in range(count))
+        if w.chance(0.2):
+            data += w.random.randbytes(w.random.randrange(1, 4))
+        least = 17 * (len(data) // 4)
+        places = w.pick(least, least, least, least + 1, 2**64 - 1, max(0, least - 1), w.random.randrange(least + 1))
+        aims = {(0, 0): "whole entries", (0, 1): "entries with 1 to 3 bytes more", (1, 0): "entries for a list too short",
+                (1, 1): "entries for a list too short, with 1 to 3 bytes more"}
+        w.line(f"read_nacks {places} {hexed(data)}", aims[places < least, len(data) % 4 > 0])
+
+
 def giving_up(w):
     """Passthrough: numbers NACKed the most often allowed are lost at the next poll, of an empty queue too."""
     w.open(mode=0, max=w.pick(1, 2, 3, 255), initial=w.pick(0, 5 * MS), resend=w.pick(0, 1, 20 * MS), depth=w.pick(2, 100))
@@ -485,6 +659,7 @@ def clocks(w):
     w.poll(now)
     for call in ("poll", "poll_nack", "timeout_receive", "timeout_nack"):
         w.line(f"{call} {m.clock - 1}", "instant before the clock")
+    w.line(f"nack_wire {m.clock - 1} {4 * m.max_gaps}", "instant before the clock")
     w.line(f"timeout_receive {now + 10}")
     w.poll_nack(now)
     good = datagram(m.pt, 2, 0, m.ssrc).hex()
@@ -598,14 +773,85 @@ def openings(w):
         low, high = edges[field]
         for value in [high + 1, 2**32, 2**32 + low, 2**64 - 1] + ([low - 1, 0] if low else []):
             settings = dict(good, **{field: value})
-            if low <= value <= high:
+            if low <= value <= high or field == "mode" and value == 2:
                 continue
             w.line("open " + " ".join(str(settings[name]) for name in FIELDS), f"opening with {field} out of range")
         w.line("state")
+    good_dynamic = dict(good, mode=2, min=5, max_delay=5, target=9999)
+    for field, value in (("max", 0), ("max", 5), ("max", 255), ("max", 2**32 + 1), ("min", 6), ("min", 60 * 10**9 + 1), ("max_delay", 4), ("max_delay", 60 * 10**9 + 1),
+                         ("max_delay", 2**64 - 1), ("target", 10000), ("target", 2**32), ("target", 2**64 - 1), ("delay", 60 * 10**9 + 1), ("depth", 0)):
+        w.line(opening(dict(good_dynamic, **{field: value})), f"dynamic opening with {field} out of range")
+    for mode in (0, 1, 2, 3, 2**64 - 1):
+        fields = FIELDS + (DYNAMIC_FIELDS if mode != 2 else [])
+        w.line("open " + " ".join(str(dict(good_dynamic, mode=mode)[name]) for name in fields), "opening with the fields of another mode")
+    w.line("state")
+    for field, value in (("max", 1), ("max", 4), ("min", 0), ("max_delay", 60 * 10**9), ("target", 0), ("delay", 60 * 10**9)):
+        w.open(**dict(good_dynamic, **{field: value}))
+        w.media(5, 10, 0)
+        w.look(5)
     for field in w.random.sample(FIELDS, 4):
         w.open(**dict(good, **{field: w.random.choice(edges[field])}))
         w.media(5, 10, 0)
         w.look(5)
+
+
+# The settings that a line keeps, as `write_settings` has them, and both ends of each range
+KEPT = "mode clock_rate depth max_gaps delay initial resend max min max_delay target".split()
+ENDS = dict(zip(KEPT, ((0, 2), (1, 10**6), (1, 1024), (999, 4096), (0, 60 * 10**9), (0, 60 * 10**9), (0, 60 * 10**9), (1, 255), (0, 60 * 10**9),
+                       (0, 60 * 10**9), (0, 9999))))
+
+
+def kept(w):
+    """Settings in range, often at an end of it."""
+    s = {name: w.pick(low, high, w.random.randrange(low, high + 1)) for name, (low, high) in ENDS.items()}
+    if s["mode"] == 2:
+        s["min"], s["max_delay"] = sorted((s["min"], s["max_delay"]))
+        s["max"] = w.pick(1, 4, w.random.randrange(1, 5))
+    else:
+        s.update(min=0, max_delay=0, target=0)
+    return s if s["mode"] == 1 else dict(s, delay=0)
+
+
+def damaged(w, s):
+    """The settings with one of them out of range, or not 0 where it must be, and what is wrong."""
+    name = w.pick(*KEPT)
+    low, high = ENDS[name]
+    value, aim = w.pick(high + 1, max(0, low - 1), 10**12 - 1, 5), f"{name} out of range or not 0"
+    if name == "min" and s["mode"] == 2:
+        value = s["max_delay"] + 1
+    return dict(s, **{name: value}), aim
+
+
+def settings_lines(w):
+    """Settings lines of both versions, read and written: every range at both ends and beyond, and lines with a byte or a length wrong."""
+    def line(version, s, window=0):
+        fields = [version] + [s[name] for name in KEPT[:8]] + ([window] if version == 1 else [s[name] for name in KEPT[8:]])
+        return bytearray("".join(f"{field:>12}" for field in fields) + "\n", "ascii")
+
+    for _ in range(w.random.randrange(40, 80)):
+        s, aim = kept(w), "settings in range"
+        if w.chance(0.4):
+            s, aim = damaged(w, s)
+        places = w.pick(145, 145, 146, 2**64 - 1, 144, 0)
+        w.line(f"write_settings {places} " + " ".join(str(s[name]) for name in KEPT), aim if places >= 145 else f"{aim}, an output under 145 bytes")
+        version = w.pick(1, 2, 2)
+        data = line(version, {name: s[name] % 10**12 for name in KEPT}, w.pick(0, 200 * MS, 10**12 - 1))
+        w.line(f"read_settings {data.hex()}", f"line of version {version}: {aim}")
+        at, kind = w.random.randrange(len(data)), w.random.randrange(6)
+        if kind == 0:
+            data[at] = w.pick(32, 48, 49, 57, 47, 58, 9, 10, 0, 255, w.random.randrange(256))
+        elif kind == 1:
+            del data[at:at + w.pick(1, 12, 24)]
+        elif kind == 2:
+            data[at:at] = w.pick(b" ", b"0", bytes(12), b" " * 11 + b"0", b"\n")
+        elif kind == 3:
+            data = data[:at] if w.chance(0.5) else data[:w.pick(0, 1, 11, 12, 13, 24, 120, 121, 144)]
+        elif kind == 4:
+            at = 12 * w.random.randrange(1, len(data) // 12)
+            data[at:at + 12] = w.pick(b"000000000007", b"          07", b" " * 12, b"           -", b"1          1", b"        1   ", b"999999999999", b"          +7")
+        else:
+            data[:12] = w.pick(b"           0", b"           3", b"          01", b"1           ", b"          12", b"           a", b"           1", b"           2")
+        w.line(f"read_settings {hexed(bytes(data))}", "settings line with something altered")
 
 
 def lines(w):
@@ -616,22 +862,31 @@ def lines(w):
     session = "open 1 8000 2 999 5 5 5 3 0 1 1 97"
     bad = ["poll", "poll ", "poll  0", " poll 0", "poll 0 ", "poll 00", "poll 01", "poll -1", "poll +1", "poll 1.0", "poll 0x5",
            f"poll {2**64}", f"poll {10 * 2**64}", "poll -", "poll 5\r", "poll\t5", "Poll 5", "polls 5", "poll_nack", "poll_nack 1 1",
-           "pollnack 1", "timeout 5", "timeout_receive", "timeout_nack a", "rtx_stats 0", "rtx_stats ", "highest 1", "state 0",
+           "pollnack 1", "nack_wire 5", "nack_wire 5 ", "nack_wire 5 4000 1", "nack_wire 5 -", f"nack_wire 5 {2**64}",
+           "read_nacks 5", "read_nacks -", "read_nacks 17 0", "read_nacks 17 ", "read_nacks 17 - -", f"read_nacks {2**64} -", "timeout 5", "timeout_receive", "timeout_nack a", "rtx_stats 0", "rtx_stats ", "highest 1", "state 0",
            "state ", "state state", "media", "media 0", "media 0 ", "media 0 8", "media 0 8g", "media 0 80FF", "media 0 0x80",
            "media 0 --", "media 0 80 80", "media - 80", "media  0 80", f"media {2**64} 80", "repair 0", "repair 0 ", "repair 0 123",
            "open", "open 1", session, f"{session} ", f"{session} -", f"{session} 2 2", f"{session} {2**64}", f"{session} 02",
-           "unreadable", "-", " ", "  ", " # no comment", "poll 5#", "media 0 80 # comment", "\x00", "poll \x005", "é", "\x7f"]
+           "burst", "burst 0", "burst 0 0", "burst 0 0 ", "burst 0 0 - ", "burst 0 1 8 0", "burst 0 1 80 00", "burst 0 1 80 -", f"burst 0 1 80 {2**64}",
+           "burst - 0 -", "burst 0 - -", "read_settings", "read_settings ", "read_settings 2", "read_settings 20 20", "read_settings - ", "write_settings 145",
+           "write_settings 145 1 8000 2 999 5 5 5 3 0 0", "write_settings 145 1 8000 2 999 5 5 5 3 0 0 0 0", "write_settings 145 1 8000 2 999 5 5 5 3 0 0 -",
+           f"write_settings 145 1 8000 2 999 5 5 5 3 0 0 {2**64}", "unreadable", "-", " ", "  ", " # no comment", "poll 5#", "media 0 80 # comment", "\x00", "poll \x005", "é", "\x7f"]
     for line in w.random.sample(bad, len(bad)):
         w.line(line, "line that is no call")
         if w.chance(0.05):
             w.line("state")
     for text in ("", "#", "# ordinary comment", "#poll 5", "# " + "x" * 5000):
         w.lines.append(text)
-    for length in (4094, 4095, 4096, 4097, 5000, 70000):
+    lengths = (4095, 4096, 65534, 65535, 65536, 65537, 70000) if w.most_depth == 1024 else (65535, 65536, 70000)
+    for length in lengths:
         head = f"media {m.clock + (5 if length % 2 == 0 else 10)} "    # the digits are even in number
         w.line(head + "8" * (length - len(head)), f"datagram in a line of {length} bytes")
-        w.line("x" * length, "line that is no call")
-        w.line("poll " + "0" * (length - 5), "line that is no call")
+    w.line("poll " + "0" * 65530, "line that is no call")
+    w.line("x" * 65536, "line that is no call")
+    many = f"burst {m.clock} 40000 -"
+    w.line(many + " 0" * ((65535 - len(many)) // 2), "burst of as many datagrams as a line holds")
+    most = (65535 - len("read_nacks 139264 ")) // 8 if w.most_depth == 1024 else 2000
+    w.line("read_nacks 139264 " + "0000ffff" * most, "a list of numbers longer than a block")
     w.line("highest")
     w.line("state")
 
@@ -668,15 +923,15 @@ def far(w):
     w.line("state")
 
 
-# How often each is drawn; `far` is not
-WEIGHTS = {stream: 6, mixture: 10, due_instants: 4, limits: 4, jitter: 3, deep: 0.3, steps: 2, wraps: 2, joins: 2, wired: 2, full: 3, remembered: 1,
-           giving_up: 3, wide: 2, clocks: 1, malformed: 1, flips: 1, openings: 1, lines: 1}
-PROFILES = {profile.__name__: profile for profile in (*WEIGHTS, far)}
+# How often each is drawn; `far` and `two_cycles` are not
+WEIGHTS = {stream: 6, mixture: 10, dynamic: 4, attempts_edges: 3, bursts: 4, due_instants: 4, limits: 4, jitter: 3, deep: 0.3, steps: 2, wraps: 2, masks: 4, entries: 2, joins: 2, wired: 2, full: 3, remembered: 1,
+           giving_up: 3, wide: 2, clocks: 1, malformed: 1, flips: 1, openings: 1, settings_lines: 2, lines: 1}
+PROFILES = {profile.__name__: profile for profile in (*WEIGHTS, far, two_cycles)}
 
 
 def before_any_session(w):
-    for call in ("poll", "media", "repair", "poll_nack", "timeout_receive", "timeout_nack", "rtx_stats", "highest", "state"):
-        fields = {"media": " 0 80", "repair": " 0 -", "rtx_stats": "", "highest": "", "state": ""}.get(call, " 0")
+    for call in ("poll", "media", "burst", "repair", "poll_nack", "nack_wire", "timeout_receive", "timeout_nack", "rtx_stats", "highest", "state"):
+        fields = {"media": " 0 80", "burst": " 0 0 80 5", "repair": " 0 -", "nack_wire": " 0 0", "rtx_stats": "", "highest": "", "state": ""}.get(call, " 0")
         w.line(call + fields, "call before any session")
     w.line("open 1 0 2 999 5 5 5 3 0 1 1 97 2", "refused opening before any session")
     w.line("poll 0", "call before any session")

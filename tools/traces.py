@@ -5,6 +5,7 @@ import struct
 import sys
 
 FIELDS = "mode clock_rate depth max_gaps delay initial resend max pt ssrc rtx rtx_pt rtx_ssrc".split()
+DYNAMIC_FIELDS = "min max_delay target".split()    # in mode 2 alone
 MAX_INSTANT = 2**52 - 1
 
 # Every answer of every call that a trace can meet, without its values
@@ -12,14 +13,19 @@ _DATAGRAM = "refused 2,refused 3,refused 4,refused 5,refused 6,refused 7,refused
 ANSWERS = {call: words.split(",") for call, words in {
     "open": "opened,refused 1",
     "media": f"no session,queued,dropped,{_DATAGRAM},refused 12",
+    "burst": "no session,nothing,answers,refused 15",
     "repair": f"no session,recovered,redundant,too late,refused 9,{_DATAGRAM},refused 10,refused 11,refused 13",
     "poll": "no session,nothing,packet,refused 8",
     "poll_nack": "no session,nothing,nack,refused 8",
+    "nack_wire": "no session,nothing,wire,refused 15,refused 8",
+    "read_nacks": "nothing,numbers,refused 15,refused 17",
     "timeout_receive": "no session,none,after,refused 8",
     "timeout_nack": "no session,none,after,refused 8",
     "rtx_stats": "no session,none,rtx",
     "highest": "no session,none,highest",
     "state": "no session,state",
+    "read_settings": "settings,refused 21,refused 20,refused 1",
+    "write_settings": "line,refused 1,refused 15",
     "(no call)": "unreadable",
 }.items()}
 
@@ -29,7 +35,8 @@ MEANINGS = {
     1: "settings", 2: "datagram too short", 3: "version not 2", 4: "padding", 5: "payload too long", 6: "foreign payload type",
     7: "foreign sender", 8: "clock going back or past its end", 9: "repair without RTX", 10: "repair before any packet",
     11: "repair without a number", 12: "no place for the gaps", 13: "no place for the repair", 14: "count past its end",
-    15: "output too short", 16: "session or storage damaged",
+    15: "output too short", 16: "session or storage damaged", 17: "no whole NACK entries",
+    20: "settings line not in its form", 21: "settings line of no known version",
 }
 
 
@@ -67,6 +74,11 @@ def datagram(pt, number, timestamp, ssrc, payload=b"", marker=0, csrcs=0, extens
 def repair_payload(number, payload=b""):
     """RFC 4588, section 4: the original number, then the original payload."""
     return number.to_bytes(2, "big") + payload
+
+
+def opening(settings):
+    fields = FIELDS + (DYNAMIC_FIELDS if settings["mode"] == 2 else [])
+    return "open " + " ".join(str(settings[field]) for field in fields)
 
 
 def hexed(data):

@@ -1,20 +1,14 @@
 // Fields of a line (docs/TRACE.md, "Lines"). A field begins behind the blank at a place, and ends before the next blank or with the line.
-ghost use Prim.Native.Nat.{_≤_};
+ghost use Prim.Native.Nat.{_+_, _*_, _≤_};
 ghost use lib.ListN.{length};
-use crate::call::FIELDS;
-use crate::call::Fields;
+use crate::record::PLACES;
+use crate::record::Record;
 use rtp::opt::Opt;
 
 // A number, and the place behind its field.
 pub enum Found {
     None,
     Number(u64, usize),
-}
-
-// A place, or how many bytes there are.
-pub enum OptSize {
-    None,
-    Some(usize),
 }
 
 // The place of the first blank at or after `from`, or the length.
@@ -38,22 +32,26 @@ fn number(line: &[u8], at: usize) -> Found {
     Found::Number(n, to)
 }
 
-// So many numbers, put into the places. The place behind them.
-pub(crate) fn numbers(line: &[u8], at: usize, places: &mut Fields, count: usize) -> OptSize {
+// Numbers, put into the places from `first` up to `last`, as far as the line has fields. The place of the next one, and the place behind
+// them in the line; none where a field is no number.
+pub(crate) fn numbers(line: &[u8], at: usize, r: &mut Record, first: usize, last: usize) -> Found {
     let mut from = at;
-    let mut i = 0;
-    while i < count {
-        let Found::Number(n, to) = number(line, from) else {
-            return OptSize::None;
-        };
-        if FIELDS <= i {
-            return OptSize::None;
+    let mut i = first;
+    while i < last {
+        if line.len() <= from {
+            return Found::Number(i as u64, from);
         }
-        places[i] = n;
+        if PLACES <= i {
+            return Found::None;
+        }
+        let Found::Number(n, to) = number(line, from) else {
+            return Found::None;
+        };
+        r[i] = n;
         from = to;
         i += 1;
     }
-    OptSize::Some(from)
+    Found::Number(i as u64, from)
 }
 
 // The value of a hexadecimal digit, or 16.
@@ -85,44 +83,45 @@ fn octet(high: u8, low: u8) -> u16 {
     256
 }
 
-// Puts the byte of each two digits at the front of `bytes`; false where they are no digits, or more than there is room for.
-fn decode(digits: &[u8], bytes: &mut [u8]) -> bool {
-    let size = digits.len() / 2;
-    if bytes.len() < size {
-        return false;
-    }
+// Puts the byte of each two digits from `first` on at the front of the line: it overtakes no digit that is still to be read. False where
+// they are no digits.
+fn decode(line: &mut [u8], first: usize, size: usize) -> bool
+    requires { ⌜ first + 2 * size ≤ length (now line) ⌝ }
+{
     let mut i = 0;
     while i < size {
-        let b = octet(digits[2 * i], digits[2 * i + 1]);
+        let b = octet(line[first + 2 * i], line[first + 2 * i + 1]);
         if 255 < b {
             return false;
         }
-        bytes[i] = b as u8;
+        line[i] = b as u8;
         i += 1;
     }
     true
 }
 
-// The last field as HEX; its bytes go to the front of `bytes`.
-pub(crate) fn last_hex(line: &[u8], at: usize, bytes: &mut [u8]) -> OptSize {
+// Whether a field is a dash alone.
+fn is_dash(field: &[u8]) -> bool {
+    check::same(field, b"-")
+}
+
+// The field behind the blank at `at` as HEX. Its bytes go to the front of the line; how many they are, and the place behind the field.
+pub(crate) fn hex(line: &mut [u8], at: usize) -> Found {
     if line.len() <= at {
-        return OptSize::None;
+        return Found::None;
     }
     let first = at + 1;
-    let digits = &line[first..];
-    if digits.len() == 1 {
-        if digits[0] == b'-' {
-            return OptSize::Some(0);
-        }
+    let to = end(line, first);
+    if is_dash(&line[first..to]) {
+        return Found::Number(0, to);
     }
-    if digits.len() == 0 {
-        return OptSize::None;
+    let digits = to - first;
+    let size = digits / 2;
+    if (size == 0) | (digits % 2 == 1) {
+        return Found::None;
     }
-    if digits.len() % 2 == 1 {
-        return OptSize::None;
+    if decode(line, first, size) {
+        return Found::Number(size as u64, to);
     }
-    if decode(digits, bytes) {
-        return OptSize::Some(digits.len() / 2);
-    }
-    OptSize::None
+    Found::None
 }

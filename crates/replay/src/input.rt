@@ -5,7 +5,7 @@ ghost use lib.ListN.{length};
 use libc::STDIN_FILENO;
 
 // One byte more than the longest line that is read (docs/TRACE.md, "Lines").
-pub const LINE: usize = 4096;
+pub const LINE: usize = 65536;
 
 pub type Line = [u8; LINE];
 

@@ -13,6 +13,7 @@ mod input;
 mod make;
 mod output;
 mod put;
+mod record;
 mod run;
 mod state;
 
@@ -23,8 +24,8 @@ fn main() {
     let mut remembered = [0u64; make::REMEMBERED];
     let mut block = io::large_buffer();
     let mut line = [0u8; input::LINE];
-    let mut fields = [0u64; call::FIELDS];
-    let mut bytes = [0u8; call::BYTES];
+    let mut r = [0u64; record::PLACES];
+    let mut octets = [0u8; make::OCTETS];
     let mut numbers = [0u16; make::NUMBERS];
     let mut out = io::large_buffer();
     run::run(
@@ -34,8 +35,8 @@ fn main() {
         &mut remembered,
         &mut block,
         &mut line,
-        &mut fields,
-        &mut bytes,
+        &mut r,
+        &mut octets,
         &mut numbers,
         &mut out,
     );

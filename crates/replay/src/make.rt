@@ -1,13 +1,18 @@
-// A call made on the session that is held, beside the storage that its D and G ask for, and its answer put into the output.
+// A call made on the session, beside the storage that its D and G ask for, and its answer put into the line's record.
 ghost use Prim.Native.Nat.{_≤_};
 use crate::answer;
-use crate::call::Bytes;
 use crate::call::Call;
-use crate::call::Fields;
-use crate::output;
-use crate::state;
+use crate::input::LINE;
+use crate::record;
+use crate::record::COUNT;
+use crate::record::DEPTH;
+use crate::record::FIRST;
+use crate::record::OPEN;
+use crate::record::Record;
+use crate::record::SIZE;
 use config::MAX_DEPTH;
 use config::MAX_GAPS;
+use config::RtpInboundStreamDynamicConfig;
 use config::Senders;
 use config::Settings;
 use entries::ENTRY_WORDS;
@@ -26,7 +31,7 @@ const D_WORDS: usize = 2 * ENTRY_WORDS;
 
 const D_BYTES: usize = 2 * PAYLOAD_BYTES;
 
-// Storage for the largest session, and a list for its longest NACK.
+// Storage for the largest session, the longest list of numbers and the longest output of bytes.
 pub const ENTRIES: usize = D_WORDS * MAX_DEPTH;
 
 pub const PAYLOADS: usize = D_BYTES * MAX_DEPTH;
@@ -35,7 +40,11 @@ pub const GAPS: usize = GAP_WORDS * MAX_GAPS;
 
 pub const REMEMBERED: usize = REMEMBERED_WORDS * MAX_LOST_NACKED;
 
-pub const NUMBERS: usize = MAX_GAPS;
+// Of a line's HEX each eight digits name up to seventeen numbers.
+pub const NUMBERS: usize = 17 * LINE / 8;
+
+// An answer for each end that a line can have; four bytes for each of the largest G are fewer.
+pub const OCTETS: usize = LINE / 2;
 
 pub type Entries = [u64; ENTRIES];
 
@@ -47,16 +56,7 @@ pub type Remembered = [u64; REMEMBERED];
 
 pub type Numbers = [u16; NUMBERS];
 
-pub enum Held {
-    None,
-    Some(Session),
-}
-
-// The session after a line, and how many bytes of the output are filled.
-pub struct Made {
-    pub held: Held,
-    pub at: usize,
-}
+pub type Octets = [u8; OCTETS];
 
 // ---- open
 
@@ -69,419 +69,338 @@ fn low32(x: u64) -> u32 {
 }
 
 // Whether the opening's own types hold the fields (docs/TRACE.md has their order).
-fn fit(f: &Fields) -> bool {
-    (f[0] <= 1)
-        & (f[1] <= 4294967295)
-        & (f[7] <= 4294967295)
-        & (f[8] <= 255)
-        & (f[9] <= 4294967295)
-        & (f[10] <= 1)
-        & (f[11] <= 255)
-        & (f[12] <= 4294967295)
+fn fit(r: &Record) -> bool {
+    (r[FIRST] <= 2)
+        & (r[FIRST + 1] <= 4294967295)
+        & (r[FIRST + 7] <= 4294967295)
+        & (r[FIRST + 8] <= 255)
+        & (r[FIRST + 9] <= 4294967295)
+        & (r[FIRST + 10] <= 1)
+        & (r[FIRST + 11] <= 255)
+        & (r[FIRST + 12] <= 4294967295)
+}
+
+// A clock rate of 0, which the opening refuses as it refuses every other value out of its range, where the types do not hold the fields.
+fn clock_rate_of(r: &Record) -> u32 {
+    if fit(r) { low32(r[FIRST + 1]) } else { 0 }
 }
 
 // Of fields that fit, the low bits are all.
-fn settings_of(f: &Fields) -> Settings {
-    let mode = config::mode_of(f[0]);
+fn settings_of(r: &Record) -> Settings {
+    let dynamic = RtpInboundStreamDynamicConfig {
+        min: r[FIRST + 13],
+        max: r[FIRST + 14],
+        target_recovery: r[FIRST + 15],
+    };
+    let mode = config::mode_of(r[FIRST], dynamic);
     Settings {
         mode,
-        clock_rate: low32(f[1]),
-        max_entries: f[2] as usize,
-        max_gaps: f[3] as usize,
-        delay: f[4],
-        initial_nack_delay: f[5],
-        default_nack_resend_delay: f[6],
-        max_nack_attempts: low32(f[7]),
+        clock_rate: clock_rate_of(r),
+        max_entries: r[FIRST + 2] as usize,
+        max_gaps: r[FIRST + 3] as usize,
+        delay: r[FIRST + 4],
+        initial_nack_delay: r[FIRST + 5],
+        default_nack_resend_delay: r[FIRST + 6],
+        max_nack_attempts: low32(r[FIRST + 7]),
     }
 }
 
-fn senders_of(f: &Fields) -> Senders {
+fn senders_of(r: &Record) -> Senders {
     Senders {
-        pt: low8(f[8]),
-        ssrc: Ssrc(low32(f[9])),
-        has_rtx: f[10] == 1,
-        rtx_pt: low8(f[11]),
-        rtx_ssrc: Ssrc(low32(f[12])),
+        pt: low8(r[FIRST + 8]),
+        ssrc: Ssrc(low32(r[FIRST + 9])),
+        has_rtx: r[FIRST + 10] == 1,
+        rtx_pt: low8(r[FIRST + 11]),
+        rtx_ssrc: Ssrc(low32(r[FIRST + 12])),
     }
 }
 
-fn config_of(f: &Fields) -> Config {
-    let settings = settings_of(f);
-    let senders = senders_of(f);
+fn config_of(r: &Record) -> Config {
+    let settings = settings_of(r);
+    let senders = senders_of(r);
     Config { settings, senders }
 }
 
-fn opened(before: Held, opening: Opening, out: &mut [u8], at: usize) -> Made {
+// The session before any was opened, which no call reaches: the smallest, in the smallest storage.
+pub(crate) fn first(
+    entries: &mut [u64],
+    payloads: &mut [u8],
+    gaps: &mut [u64],
+    remembered: &mut [u64],
+    r: &mut Record,
+) -> Opening {
+    let words = least(D_WORDS, entries.len());
+    let places = least(D_BYTES, payloads.len());
+    let gap_words = least(999 * GAP_WORDS, gaps.len());
+    r[FIRST + 1] = 1;
+    r[FIRST + 2] = 1;
+    r[FIRST + 3] = 999;
+    r[FIRST + 7] = 1;
+    queue::open::open(
+        config_of(r),
+        &mut entries[0..words],
+        &mut payloads[0..places],
+        &mut gaps[0..gap_words],
+        remembered,
+    )
+}
+
+fn opened(before: Session, opening: Opening, r: &mut Record) -> Session {
     match opening {
-        Opening::Session(s) => Made {
-            held: Held::Some(s),
-            at: answer::opened(out, at),
-        },
-        Opening::Refused(number) => Made {
-            held: before,
-            at: answer::refused(out, at, number),
-        },
+        Opening::Session(s) => {
+            r[OPEN] = 1;
+            r[DEPTH] = r[FIRST + 2];
+            r[record::GAPS] = r[FIRST + 3];
+            answer::word(r, record::OPENED);
+            s
+        }
+        Opening::Refused(number) => {
+            answer::refused(r, number);
+            before
+        }
     }
 }
 
-fn open(
-    before: Held,
-    entries: &mut [u64],
-    payloads: &mut [u8],
-    gaps: &mut [u64],
-    remembered: &mut [u64],
-    fields: &Fields,
-    out: &mut [u8],
-    at: usize,
-) -> Made {
-    if fit(fields) {
-        let opening = queue::open::open(config_of(fields), entries, payloads, gaps, remembered);
-        return opened(before, opening, out, at);
-    }
-    Made {
-        held: before,
-        at: answer::refused(out, at, refusals::SETTINGS),
-    }
-}
+// ---- the calls that leave the session as it is
 
-// ---- the calls that change the session
-
-// The first `size` bytes.
-fn datagram(bytes: &[u8], size: u64) -> &[u8] {
-    let n = size as usize;
-    if bytes.len() < n {
-        return bytes;
-    }
-    &bytes[0..n]
-}
-
-fn media(
+fn look(
     s: Session,
     entries: &mut [u64],
     payloads: &mut [u8],
     gaps: &mut [u64],
     remembered: &mut [u64],
-    fields: &Fields,
-    bytes: &[u8],
-    out: &mut [u8],
-    at: usize,
-) -> Made {
-    let received = datagram(bytes, fields[1]);
-    let done = push::push(s, entries, payloads, gaps, remembered, fields[0], received);
-    let answer = done.answer;
-    let session = done.session;
-    Made {
-        held: Held::Some(session),
-        at: answer::media(out, at, answer),
+    call: Call,
+    r: &mut Record,
+) {
+    let now = r[FIRST];
+    match call {
+        Call::TimeoutReceive => {
+            let answer = reading::timeout_receive(s, entries, payloads, gaps, remembered, now);
+            answer::timeout(r, answer);
+        }
+        Call::TimeoutNack => {
+            let answer = reading::timeout_nack(s, entries, payloads, gaps, remembered, now);
+            answer::timeout(r, answer);
+        }
+        Call::RtxStats => {
+            let answer = reading::rtx_stats(s, entries, payloads, gaps, remembered);
+            answer::rtx_stats(r, answer);
+        }
+        _ => {
+            let answer = reading::highest_sequence_number_received(
+                s,
+                entries,
+                payloads,
+                gaps,
+                remembered,
+            );
+            answer::highest(r, answer);
+        }
     }
 }
 
-fn repair(
-    s: Session,
-    entries: &mut [u64],
-    payloads: &mut [u8],
-    gaps: &mut [u64],
-    remembered: &mut [u64],
-    fields: &Fields,
-    bytes: &[u8],
-    out: &mut [u8],
-    at: usize,
-) -> Made {
-    let received = datagram(bytes, fields[1]);
-    let done = push::rtx::push_rtx(s, entries, payloads, gaps, remembered, fields[0], received);
-    let answer = done.answer;
-    let session = done.session;
-    Made {
-        held: Held::Some(session),
-        at: answer::repair(out, at, answer),
+// ---- every call
+
+// The ends of a burst, behind NOW and PLACES; `next` is the place behind them in the record.
+fn ends(r: &[u64], next: u64) -> &[u64] {
+    let to = least(next as usize, r.len());
+    if to < FIRST + 2 {
+        return &r[0..0];
     }
+    &r[FIRST + 2..to]
 }
 
+// The calls that ask for something to go out.
 fn poll(
     s: Session,
     entries: &mut [u64],
     payloads: &mut [u8],
     gaps: &mut [u64],
     remembered: &mut [u64],
-    now: u64,
-    payload: &mut [u8],
-    out: &mut [u8],
-    at: usize,
-) -> Made {
-    let done = poll::poll(s, entries, payloads, gaps, remembered, now, payload);
-    let answer = done.answer;
-    let session = done.session;
-    Made {
-        held: Held::Some(session),
-        at: answer::poll(out, at, answer, payload),
-    }
-}
-
-fn poll_nack(
-    s: Session,
-    entries: &mut [u64],
-    payloads: &mut [u8],
-    gaps: &mut [u64],
-    remembered: &mut [u64],
-    now: u64,
+    call: Call,
+    r: &mut Record,
+    octets: &mut [u8],
     numbers: &mut [u16],
-    out: &mut [u8],
-    at: usize,
-) -> Made {
-    let done = poll::nack::poll_nack(s, entries, payloads, gaps, remembered, now, numbers);
-    let answer = done.answer;
-    let session = done.session;
-    Made {
-        held: Held::Some(session),
-        at: answer::poll_nack(out, at, answer, numbers),
-    }
-}
-
-// ---- the calls that leave it as it is
-
-fn timeout_receive(
-    s: Session,
-    entries: &mut [u64],
-    payloads: &mut [u8],
-    gaps: &mut [u64],
-    remembered: &mut [u64],
-    now: u64,
-    out: &mut [u8],
-    at: usize,
-) -> usize {
-    let answer = reading::timeout_receive(s, entries, payloads, gaps, remembered, now);
-    answer::timeout(out, at, answer)
-}
-
-fn timeout_nack(
-    s: Session,
-    entries: &mut [u64],
-    payloads: &mut [u8],
-    gaps: &mut [u64],
-    remembered: &mut [u64],
-    now: u64,
-    out: &mut [u8],
-    at: usize,
-) -> usize {
-    let answer = reading::timeout_nack(s, entries, payloads, gaps, remembered, now);
-    answer::timeout(out, at, answer)
-}
-
-fn rtx_stats(
-    s: Session,
-    entries: &mut [u64],
-    payloads: &mut [u8],
-    gaps: &mut [u64],
-    remembered: &mut [u64],
-    out: &mut [u8],
-    at: usize,
-) -> usize {
-    let answer = reading::rtx_stats(s, entries, payloads, gaps, remembered);
-    answer::rtx_stats(out, at, answer)
-}
-
-fn highest(
-    s: Session,
-    entries: &mut [u64],
-    payloads: &mut [u8],
-    gaps: &mut [u64],
-    remembered: &mut [u64],
-    out: &mut [u8],
-    at: usize,
-) -> usize {
-    let answer = reading::highest_sequence_number_received(s, entries, payloads, gaps, remembered);
-    answer::highest(out, at, answer)
-}
-
-fn read(
-    s: Session,
-    entries: &mut [u64],
-    payloads: &mut [u8],
-    gaps: &mut [u64],
-    remembered: &mut [u64],
-    call: Call,
-    now: u64,
-    out: &mut [u8],
-    at: usize,
-) -> usize {
+) -> Session {
+    let now = r[FIRST];
     match call {
-        Call::TimeoutReceive => timeout_receive(
-            s,
-            entries,
-            payloads,
-            gaps,
-            remembered,
-            now,
-            out,
-            at,
-        ),
-        Call::TimeoutNack => timeout_nack(s, entries, payloads, gaps, remembered, now, out, at),
-        Call::RtxStats => rtx_stats(s, entries, payloads, gaps, remembered, out, at),
-        Call::Highest => highest(s, entries, payloads, gaps, remembered, out, at),
-        _ => state::write(out, at, s, entries, payloads, gaps, remembered),
+        Call::Poll => {
+            let done = poll::poll(s, entries, payloads, gaps, remembered, now, octets);
+            let answer = done.answer;
+            answer::poll(r, answer);
+            done.session
+        }
+        Call::PollNack => {
+            let done = poll::nack::poll_nack(s, entries, payloads, gaps, remembered, now, numbers);
+            let answer = done.answer;
+            answer::poll_nack(r, answer);
+            done.session
+        }
+        Call::NackWire => {
+            let lent = least(r[FIRST + 1] as usize, octets.len());
+            let done = poll::wire::nack_wire(
+                s,
+                entries,
+                payloads,
+                gaps,
+                remembered,
+                now,
+                &mut octets[0..lent],
+            );
+            let answer = done.answer;
+            answer::nack_wire(r, answer);
+            done.session
+        }
+        _ => {
+            look(s, entries, payloads, gaps, remembered, call, r);
+            s
+        }
     }
 }
 
-// ---- every call
-
-fn on_session(
-    s: Session,
-    entries: &mut [u64],
-    payloads: &mut [u8],
-    gaps: &mut [u64],
-    remembered: &mut [u64],
-    call: Call,
-    fields: &Fields,
-    bytes: &mut Bytes,
-    numbers: &mut Numbers,
-    out: &mut [u8],
-    at: usize,
-) -> Made {
-    let now = fields[0];
-    match call {
-        Call::Media => media(
-            s,
-            entries,
-            payloads,
-            gaps,
-            remembered,
-            fields,
-            bytes,
-            out,
-            at,
-        ),
-        Call::Repair => repair(
-            s,
-            entries,
-            payloads,
-            gaps,
-            remembered,
-            fields,
-            bytes,
-            out,
-            at,
-        ),
-        Call::Poll => poll(s, entries, payloads, gaps, remembered, now, bytes, out, at),
-        Call::PollNack => poll_nack(
-            s,
-            entries,
-            payloads,
-            gaps,
-            remembered,
-            now,
-            numbers,
-            out,
-            at,
-        ),
-        _ => Made {
-            held: Held::Some(s),
-            at: read(s, entries, payloads, gaps, remembered, call, now, out, at),
-        },
-    }
-}
-
-fn on_held(
-    before: Held,
-    entries: &mut [u64],
-    payloads: &mut [u8],
-    gaps: &mut [u64],
-    remembered: &mut [u64],
-    call: Call,
-    fields: &Fields,
-    bytes: &mut Bytes,
-    numbers: &mut Numbers,
-    out: &mut [u8],
-    at: usize,
-) -> Made {
-    match before {
-        Held::None => Made {
-            held: before,
-            at: answer::no_session(out, at),
-        },
-        Held::Some(s) => on_session(
-            s,
-            entries,
-            payloads,
-            gaps,
-            remembered,
-            call,
-            fields,
-            bytes,
-            numbers,
-            out,
-            at,
-        ),
-    }
-}
-
+// An opening, or a call that brings datagrams, or one of the others.
 fn make(
-    before: Held,
+    s: Session,
     entries: &mut [u64],
     payloads: &mut [u8],
     gaps: &mut [u64],
     remembered: &mut [u64],
     call: Call,
-    fields: &Fields,
-    bytes: &mut Bytes,
-    numbers: &mut Numbers,
-    out: &mut [u8],
-    at: usize,
-) -> Made {
+    r: &mut Record,
+    bytes: &[u8],
+    octets: &mut [u8],
+    numbers: &mut [u16],
+) -> Session {
+    let now = r[FIRST];
     match call {
-        Call::PassedOver => Made { held: before, at },
-        Call::Unreadable => Made {
-            held: before,
-            at: answer::unreadable(out, at),
-        },
-        Call::Open => open(before, entries, payloads, gaps, remembered, fields, out, at),
-        _ => on_held(
-            before,
+        Call::Open => {
+            let opening = queue::open::open(config_of(r), entries, payloads, gaps, remembered);
+            opened(s, opening, r)
+        }
+        Call::Media => {
+            let done = push::push(s, entries, payloads, gaps, remembered, now, bytes);
+            let answer = done.answer;
+            answer::media(r, answer);
+            done.session
+        }
+        Call::Burst => {
+            let lent = least(r[FIRST + 1] as usize, octets.len());
+            let next = r[COUNT];
+            let done = burst::push_burst(
+                s,
+                entries,
+                payloads,
+                gaps,
+                remembered,
+                now,
+                bytes,
+                ends(r, next),
+                &mut octets[0..lent],
+            );
+            answer::burst(r, done.refusal, done.answers);
+            done.session
+        }
+        Call::Repair => {
+            let done = push::rtx::push_rtx(s, entries, payloads, gaps, remembered, now, bytes);
+            let answer = done.answer;
+            answer::repair(r, answer);
+            done.session
+        }
+        _ => poll(
+            s,
             entries,
             payloads,
             gaps,
             remembered,
             call,
-            fields,
-            bytes,
+            r,
+            octets,
             numbers,
-            out,
-            at,
         ),
+    }
+}
+
+fn read_nacks(r: &mut Record, bytes: &[u8], numbers: &mut [u16]) {
+    let lent = least(r[FIRST] as usize, numbers.len());
+    let answer = nack_pairs::read::read(bytes, &mut numbers[0..lent]);
+    answer::read_nacks(r, answer);
+}
+
+// Puts the numbers behind PLACES where an opening has them. What must be 0 outside mode 2 and is not has the clock rate 0 in its place, which
+// is refused.
+fn as_opening(r: &mut Record) {
+    let min = r[FIRST + 9];
+    let max = r[FIRST + 10];
+    let target = r[FIRST + 11];
+    let mode = r[FIRST + 1];
+    r[FIRST] = mode;
+    r[FIRST + 1] = r[FIRST + 2];
+    r[FIRST + 2] = r[FIRST + 3];
+    r[FIRST + 3] = r[FIRST + 4];
+    r[FIRST + 4] = r[FIRST + 5];
+    r[FIRST + 5] = r[FIRST + 6];
+    r[FIRST + 6] = r[FIRST + 7];
+    r[FIRST + 7] = r[FIRST + 8];
+    r[FIRST + 8] = 0;
+    r[FIRST + 9] = 0;
+    r[FIRST + 10] = 0;
+    r[FIRST + 11] = 0;
+    r[FIRST + 12] = 0;
+    r[FIRST + 13] = min;
+    r[FIRST + 14] = max;
+    r[FIRST + 15] = target;
+    if (mode != 2) & ((min != 0) | (max != 0) | (target != 0)) {
+        r[FIRST + 1] = 0;
+    }
+}
+
+fn write_settings(r: &mut Record, octets: &mut [u8]) {
+    let lent = least(r[FIRST] as usize, octets.len());
+    as_opening(r);
+    let answer = settings_line::write_line(settings_of(r), &mut octets[0..lent]);
+    answer::write_settings(r, answer);
+}
+
+fn read_settings(r: &mut Record, bytes: &[u8]) {
+    let answer = settings_line::read_line(bytes);
+    answer::read_settings(r, answer);
+}
+
+// Whether a line needs no session, or is `state`, whose lines are written apart.
+fn is_apart(call: Call) -> bool {
+    match call {
+        Call::ReadNacks | Call::ReadSettings | Call::WriteSettings => true,
+        Call::PassedOver | Call::State | Call::Unreadable | Call::NoSession => true,
+        _ => false,
+    }
+}
+
+fn apart(call: Call, r: &mut Record, bytes: &[u8], octets: &mut [u8], numbers: &mut [u16]) {
+    match call {
+        Call::ReadNacks => read_nacks(r, bytes, numbers),
+        Call::ReadSettings => read_settings(r, bytes),
+        Call::WriteSettings => write_settings(r, octets),
+        Call::Unreadable => answer::word(r, record::UNREADABLE),
+        Call::NoSession => answer::word(r, record::NO_SESSION),
+        _ => answer::word(r, record::NO_ANSWER),
     }
 }
 
 // ---- storage
 
-// The D and G of a session.
-struct Limits {
-    max_entries: usize,
-    max_gaps: usize,
-}
+// The D and G of the session that an `open` asks for, or of the one that is open.
 
-fn session_limits(s: Session) -> Limits {
-    let q = s.queue;
-    let config = q.config;
-    let settings = config.settings;
-    Limits {
-        max_entries: settings.max_entries,
-        max_gaps: settings.max_gaps,
+fn depth(call: Call, r: &Record) -> usize {
+    match call {
+        Call::Open => r[FIRST + 2] as usize,
+        _ => r[DEPTH] as usize,
     }
 }
 
-// Those of the session that an `open` asks for, or of the one that is held.
-fn limits_of(held: Held, call: Call, fields: &Fields) -> Limits {
-    if let Call::Open = call {
-        return Limits {
-            max_entries: fields[2] as usize,
-            max_gaps: fields[3] as usize,
-        };
-    }
-    match held {
-        Held::None => Limits {
-            max_entries: 0,
-            max_gaps: 0,
-        },
-        Held::Some(s) => session_limits(s),
+fn most_gaps(call: Call, r: &Record) -> usize {
+    match call {
+        Call::Open => r[FIRST + 3] as usize,
+        _ => r[record::GAPS] as usize,
     }
 }
 
@@ -493,36 +412,37 @@ fn least(a: usize, b: usize) -> usize
 
 // A line's call, made beside the part of the storage that its session is lent.
 pub(crate) fn step(
-    before: Held,
+    s: Session,
     entries: &mut [u64],
     payloads: &mut [u8],
     gaps: &mut [u64],
     remembered: &mut [u64],
     call: Call,
-    fields: &Fields,
-    bytes: &mut Bytes,
-    numbers: &mut Numbers,
-    out: &mut [u8],
-    filled: usize,
-) -> Made {
-    let most = limits_of(before, call, fields);
-    let d = least(most.max_entries, MAX_DEPTH);
-    let g = least(most.max_gaps, MAX_GAPS);
+    r: &mut Record,
+    line: &[u8],
+    octets: &mut [u8],
+    numbers: &mut [u16],
+) -> Session {
+    let size = least(r[SIZE] as usize, line.len());
+    if is_apart(call) {
+        apart(call, r, &line[0..size], octets, numbers);
+        return s;
+    }
+    let d = least(depth(call, r), MAX_DEPTH);
+    let g = least(most_gaps(call, r), MAX_GAPS);
     let words = least(D_WORDS * d, entries.len());
-    let octets = least(D_BYTES * d, payloads.len());
-    let places = least(GAP_WORDS * g, gaps.len());
-    let at = output::room(out, filled);
+    let places = least(D_BYTES * d, payloads.len());
+    let gap_words = least(GAP_WORDS * g, gaps.len());
     make(
-        before,
+        s,
         &mut entries[0..words],
-        &mut payloads[0..octets],
-        &mut gaps[0..places],
+        &mut payloads[0..places],
+        &mut gaps[0..gap_words],
         remembered,
         call,
-        fields,
-        bytes,
+        r,
+        &line[0..size],
+        octets,
         numbers,
-        out,
-        at,
     )
 }

@@ -3,8 +3,9 @@ use crate::input::Input;
 use config::MAX_GAPS;
 use libc::STDOUT_FILENO;
 
-// The longest line of an answer: `nack`, a number of at most five digits and its blank for each of the largest G, and the line feed.
-const ROOM: usize = 4 + 6 * MAX_GAPS + 1;
+// The longest part of an answer that is put at once: `wire`, a blank, eight digits for each of the largest G, and the line feed. Lists of
+// numbers make room for each.
+const ROOM: usize = 5 + 8 * MAX_GAPS + 1;
 
 // Writes what is gathered; the place to go on at.
 fn write(out: &[u8], at: usize) -> usize {

@@ -1,7 +1,12 @@
 // The parts of an answer, put into a lent buffer from a place on; each function answers the place behind them. What does not fit is left
-// out: `output::room` makes room for a line.
+// out: `output::room` makes room for a line, or for the next number of a list.
 ghost use Prim.Native.Nat.{_*_, _≤_};
 ghost use lib.ListN.{length};
+use crate::output;
+use crate::record::COUNT;
+use crate::record::FIRST;
+use crate::record::MISSING;
+use crate::record::Record;
 use rtp::opt::Opt;
 
 pub(crate) fn text(out: &mut [u8], at: usize, s: &[u8]) -> usize {
@@ -19,11 +24,23 @@ pub(crate) fn end(out: &mut [u8], at: usize) -> usize {
     text(out, at, b"\n")
 }
 
-// A word and a number.
-pub(crate) fn line(out: &mut [u8], at: usize, word: &[u8], n: u64) -> usize {
-    let a = text(out, at, word);
-    let b = number(out, a, n);
-    end(out, b)
+// The words of answers, twelve bytes for each, which points fill (crate::record has their places).
+const WIDTH: usize = 12;
+
+// The word in place k.
+fn cell(out: &mut [u8], at: usize, words: &[u8], k: usize) -> usize {
+    if words.len() / WIDTH <= k {
+        return at;
+    }
+    let from = WIDTH * k;
+    let to = bytes::scan::find(words, from, from + WIDTH, b'.');
+    text(out, at, &words[from..to])
+}
+
+pub(crate) fn word(out: &mut [u8], at: usize, i: u64) -> usize {
+    let words =
+        b"............unreadable..no session..refused.....opened......queued......dropped.....recovered...redundant...too late....nothing.....packet......nack........none........after.......rtx.........highest.....wire........numbers.....answers.....settings....line........";
+    cell(out, at, words, i as usize)
 }
 
 // A field, with the blank before it.
@@ -36,6 +53,67 @@ pub(crate) fn number(out: &mut [u8], at: usize, n: u64) -> usize {
     let mut digits = [0u8; 20];
     let k = io::decimal(n, &mut digits);
     field(out, at, &digits[..k])
+}
+
+// A number, or a dash where it is missing.
+fn or_dash(out: &mut [u8], at: usize, n: u64) -> usize {
+    if n == MISSING {
+        return text(out, at, b" -");
+    }
+    number(out, at, n)
+}
+
+// The numbers of a record.
+pub(crate) fn record(out: &mut [u8], at: usize, r: &Record) -> usize {
+    let count = r[COUNT];
+    let mut to = at;
+    let mut i = 0;
+    while i < count {
+        if 16 <= i {
+            return to;
+        }
+        to = or_dash(out, to, r[FIRST + (i as usize)]);
+        i += 1;
+    }
+    to
+}
+
+fn wide(x: u16) -> u64 {
+    x as u64
+}
+
+// The first `count` numbers of a list, which may be longer than the output: it is written on the way.
+pub(crate) fn numbers(out: &mut [u8], at: usize, list: &[u16], count: usize) -> usize {
+    let mut to = at;
+    let mut i = 0;
+    while i < count {
+        if list.len() <= i {
+            return to;
+        }
+        let roomy = output::room(out, to);
+        to = number(out, roomy, wide(list[i]));
+        i += 1;
+    }
+    to
+}
+
+fn wide8(x: u8) -> u64 {
+    x as u64
+}
+
+// The first `count` bytes, each as a number; written on the way too.
+pub(crate) fn octets(out: &mut [u8], at: usize, list: &[u8], count: usize) -> usize {
+    let mut to = at;
+    let mut i = 0;
+    while i < count {
+        if list.len() <= i {
+            return to;
+        }
+        let roomy = output::room(out, to);
+        to = number(out, roomy, wide8(list[i]));
+        i += 1;
+    }
+    to
 }
 
 pub(crate) fn two(out: &mut [u8], at: usize, a: u64, b: u64) -> usize {

@@ -3,6 +3,7 @@
 use crate::rtp::{ExtendedSequenceNumber, RtpPacket};
 use crate::rtp_session::inbound::queue::Queue;
 use crate::rtp_session::inbound::stats::RtpInboundRtxStats;
+use std::fmt::Display;
 use std::io::{self, Write};
 use std::time::{Duration, Instant};
 
@@ -27,15 +28,25 @@ pub fn packet(
     hex(out, &packet.payload)
 }
 
-pub fn nack(out: &mut impl Write, due: Option<Vec<u16>>) -> io::Result<()> {
-    let Some(numbers) = due else {
+/// A word and the numbers behind it, or `nothing`.
+pub fn numbers(out: &mut impl Write, word: &str, list: &[impl Display]) -> io::Result<()> {
+    if list.is_empty() {
         return writeln!(out, "nothing");
-    };
-    out.write_all(b"nack")?;
-    for number in numbers {
+    }
+    out.write_all(word.as_bytes())?;
+    for number in list {
         write!(out, " {number}")?;
     }
     writeln!(out)
+}
+
+/// A word and the bytes behind it, or `nothing`.
+pub fn bytes(out: &mut impl Write, word: &str, bytes: &[u8]) -> io::Result<()> {
+    if bytes.is_empty() {
+        return writeln!(out, "nothing");
+    }
+    write!(out, "{word} ")?;
+    hex(out, bytes)
 }
 
 pub fn timeout(out: &mut impl Write, timeout: Option<Duration>) -> io::Result<()> {

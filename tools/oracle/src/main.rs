@@ -5,8 +5,11 @@
 extern crate box_std as std;
 
 mod answers;
+mod attempts;
 mod datagram;
+mod nack_entries;
 mod session;
+mod settings_line;
 mod trace;
 
 #[allow(dead_code, unused_imports)]
@@ -19,7 +22,7 @@ mod rtp_session {
 
         pub(crate) use queue::config::{
             RtpInboundPassthroughConfig, RtpInboundQueueMode, RtpInboundSortedQueueConfig,
-            RtpInboundStreamSortedQueueMode,
+            RtpInboundStreamDynamicConfig, RtpInboundStreamSortedQueueMode,
         };
     }
 }
@@ -56,7 +59,7 @@ fn main() -> io::Result<()> {
         match trace::read(&line) {
             Line::PassedOver => {}
             Line::Unreadable => output.write_all(b"unreadable\n")?,
-            Line::Call(Call::Open(fields)) => match Session::open(fields) {
+            Line::Call(Call::Open(fields, dynamic)) => match Session::open(fields, dynamic) {
                 Ok(opened) => {
                     DEPTH.store(opened.depth(), Relaxed);
                     session = Some(opened);
@@ -64,6 +67,22 @@ fn main() -> io::Result<()> {
                 }
                 Err(number) => writeln!(output, "refused {number}")?,
             },
+            Line::Call(Call::ReadNacks(places, entries)) => {
+                match nack_entries::read(&entries, places) {
+                    Ok(numbers) => answers::numbers(&mut output, "numbers", &numbers)?,
+                    Err(number) => writeln!(output, "refused {number}")?,
+                }
+            }
+            Line::Call(Call::ReadSettings(line)) => match settings_line::read(&line) {
+                Ok(settings) => answers::numbers(&mut output, "settings", &settings)?,
+                Err(number) => writeln!(output, "refused {number}")?,
+            },
+            Line::Call(Call::WriteSettings([places, settings @ ..])) => {
+                match settings_line::write(settings, places) {
+                    Ok(line) => answers::bytes(&mut output, "line", line.as_bytes())?,
+                    Err(number) => writeln!(output, "refused {number}")?,
+                }
+            }
             Line::Call(call) => match &mut session {
                 None => output.write_all(b"no session\n")?,
                 Some(session) => {

@@ -1,17 +1,19 @@
 //! A session: 01's table of refusals before the original's calls.
 //!
-//! Of the table, 15 and 16 cannot be met from a trace: the driver owns its storage. Check 14 can, for timestamps alone:
-//! some two million packets, each near half a cycle on.
+//! Of the table, 16 cannot be met from a trace, the driver owning its storage, and 15 only by the calls of document 02, whose lines say how
+//! much they lend. Check 14 can, for timestamps alone: some two million packets, each near half a cycle on.
 
 use crate::answers;
 use crate::datagram::{self, Packet};
+use crate::nack_entries;
 use crate::rtp::{RtpExtensions, RtpPacket, RtpTimestamp, SequenceNumber, Ssrc};
 use crate::rtp_session::inbound::queue::Queue;
 use crate::rtp_session::inbound::{
     RtpInboundPassthroughConfig, RtpInboundQueueMode, RtpInboundSortedQueueConfig,
-    RtpInboundStreamSortedQueueMode,
+    RtpInboundStreamDynamicConfig, RtpInboundStreamSortedQueueMode,
 };
 use crate::trace::Call;
+use std::collections::HashMap;
 use std::io::{self, Write};
 use std::time::{Duration, Instant};
 
@@ -34,14 +36,14 @@ pub struct Session {
 
 impl Session {
     /// Check 1, then the original's `Queue::new`.
-    pub fn open(fields: [u64; 13]) -> Refusable<Session> {
+    pub fn open(fields: [u64; 13], dynamic: Option<[u64; 3]>) -> Refusable<Session> {
         let [mode, clock_rate, depth, max_gaps, ..] = fields;
         let [.., pt, ssrc, rtx, rtx_pt, rtx_ssrc] = fields;
-        if !in_range(fields) {
+        if !in_range(fields, dynamic) {
             return Err(1);
         }
         let queue = Queue::new(
-            config(fields),
+            config(fields, dynamic),
             pt as u8,
             Ssrc(ssrc as u32),
             clock_rate as u32,
@@ -49,7 +51,7 @@ impl Session {
         );
         Ok(Session {
             queue,
-            sorted: mode == 1,
+            sorted: mode != 0,
             depth: depth as usize,
             max_gaps: max_gaps as usize,
             rtx: (rtx == 1).then_some((rtx_pt as u8, rtx_ssrc as u32)),
@@ -64,15 +66,28 @@ impl Session {
     /// Makes a call and writes its answer; a refused one writes nothing and changes nothing.
     pub fn call(&mut self, call: Call, out: &mut impl Write) -> io::Result<Refusable<()>> {
         match call {
-            Call::Open(_) => unreachable!("an opening replaces the session"),
+            Call::Open(..)
+            | Call::ReadNacks(..)
+            | Call::ReadSettings(_)
+            | Call::WriteSettings(_) => unreachable!("main makes it"),
             Call::Media(now, bytes) => {
                 answer(self.media(now, &bytes), |word| writeln!(out, "{word}"))
             }
             Call::Repair(now, bytes) => {
                 answer(self.repair(now, &bytes), |word| writeln!(out, "{word}"))
             }
+            Call::Burst(now, places, buffer, ends) => {
+                answer(self.burst(now, places, &buffer, &ends), |numbers| {
+                    answers::numbers(out, "answers", &numbers)
+                })
+            }
             Call::Poll(now) => answer(self.poll(now), |found| answers::packet(out, found)),
-            Call::PollNack(now) => answer(self.poll_nack(now), |due| answers::nack(out, due)),
+            Call::PollNack(now) => answer(self.poll_nack(now), |due| {
+                answers::numbers(out, "nack", &due)
+            }),
+            Call::NackWire(now, places) => answer(self.nack_wire(now, places), |entries| {
+                answers::bytes(out, "wire", &entries)
+            }),
             Call::TimeoutReceive(now) => answer(self.instant(now), |now| {
                 answers::timeout(out, self.queue.timeout_receive(now))
             }),
@@ -111,6 +126,27 @@ impl Session {
         } else {
             "dropped"
         })
+    }
+
+    /// 02, point 4: a media call for each datagram of the buffer; 0 queued, 255 dropped, else the refusal.
+    fn burst(&mut self, now: u64, places: u64, buffer: &[u8], ends: &[u64]) -> Refusable<Vec<u8>> {
+        let fall = ends.windows(2).any(|pair| pair[1] < pair[0]);
+        let pass = ends.iter().any(|end| *end > buffer.len() as u64);
+        if fall || pass || places < ends.len() as u64 {
+            return Err(15);
+        }
+        let mut start = 0;
+        let mut numbers = Vec::new();
+        for end in ends {
+            let end = *end as usize;
+            numbers.push(match self.media(now, &buffer[start..end]) {
+                Ok("queued") => 0,
+                Ok(_) => 255,
+                Err(number) => number,
+            });
+            start = end;
+        }
+        Ok(numbers)
     }
 
     /// Check 14 of a media packet.
@@ -204,10 +240,41 @@ impl Session {
         Ok(self.queue.poll(instant))
     }
 
-    fn poll_nack(&mut self, now: u64) -> Refusable<Option<Vec<u16>>> {
+    fn poll_nack(&mut self, now: u64) -> Refusable<Vec<u16>> {
         let instant = self.instant(now)?;
         self.clock = now;
-        Ok(self.queue.poll_nack(instant).map(|nack| nack.0))
+        Ok(self
+            .queue
+            .poll_nack(instant)
+            .map_or(Vec::new(), |nack| nack.0))
+    }
+
+    /// 02, point 1: `poll_nack`, and its numbers as entries. The original has 16 bits of them; the extended numbers are those whose count of
+    /// NACKs rose.
+    fn nack_wire(&mut self, now: u64, places: u64) -> Refusable<Vec<u8>> {
+        if places < 4 * self.max_gaps as u64 {
+            return Err(15);
+        }
+        let before: HashMap<u64, u32> = self.nack_counts().collect();
+        let listed = self.poll_nack(now)?;
+        let due: Vec<u64> = self
+            .nack_counts()
+            .filter(|(number, count)| before[number] < *count)
+            .map(|(number, _)| number)
+            .collect();
+        let low: Vec<u16> = due.iter().map(|number| *number as u16).collect();
+        assert_eq!(
+            low, listed,
+            "the numbers that were counted are those listed"
+        );
+        Ok(nack_entries::write(&due))
+    }
+
+    /// Extended number of each gap, and how often it was NACKed.
+    fn nack_counts(&self) -> impl Iterator<Item = (u64, u32)> {
+        self.queue
+            .gaps()
+            .map(|(number, _, nacked)| (number, nacked.map_or(0, |(_, count)| count)))
     }
 
     /// In sorted mode nothing at or below the last returned number is queued.
@@ -237,33 +304,40 @@ impl Session {
 }
 
 /// Check 1, field by field of the opening.
-fn in_range(fields: [u64; 13]) -> bool {
+fn in_range(fields: [u64; 13], dynamic: Option<[u64; 3]>) -> bool {
     let duration = 0..=60_000_000_000;
+    let (modes, attempts) = match dynamic {
+        None => (0..=1, 1..=255),
+        Some(_) => (2..=2, 1..=4),
+    };
+    let dynamic_in_range = dynamic
+        .is_none_or(|[min, max, target]| min <= max && duration.contains(&max) && target <= 9_999);
     let payload_type = 0..=127;
     let sender = 0..=u64::from(u32::MAX);
     let ranges = [
-        0..=1,
+        modes,
         1..=1_000_000,
         1..=1024,
         999..=4096,
         duration.clone(),
         duration.clone(),
         duration,
-        1..=255,
+        attempts,
         payload_type.clone(),
         sender.clone(),
         0..=1,
         payload_type,
         sender,
     ];
-    ranges
-        .iter()
-        .zip(fields)
-        .all(|(range, value)| range.contains(&value))
+    dynamic_in_range
+        && ranges
+            .iter()
+            .zip(fields)
+            .all(|(range, value)| range.contains(&value))
 }
 
 /// The original's settings, of an opening in range.
-fn config(fields: [u64; 13]) -> RtpInboundQueueMode {
+fn config(fields: [u64; 13], dynamic: Option<[u64; 3]>) -> RtpInboundQueueMode {
     let [mode, _, _, _, delay, initial, resend, max, ..] = fields;
     let initial_nack_delay = Duration::from_nanos(initial);
     let default_nack_resend_delay = Duration::from_nanos(resend);
@@ -277,7 +351,16 @@ fn config(fields: [u64; 13]) -> RtpInboundQueueMode {
         })
     } else {
         RtpInboundQueueMode::SortedQueue(RtpInboundSortedQueueConfig {
-            mode: RtpInboundStreamSortedQueueMode::Fixed(Duration::from_nanos(delay)),
+            mode: match dynamic {
+                None => RtpInboundStreamSortedQueueMode::Fixed(Duration::from_nanos(delay)),
+                Some([min, max, target_recovery]) => {
+                    RtpInboundStreamSortedQueueMode::Dynamic(RtpInboundStreamDynamicConfig {
+                        min: Duration::from_nanos(min),
+                        max: Duration::from_nanos(max),
+                        target_recovery,
+                    })
+                }
+            },
             initial_nack_delay,
             default_nack_resend_delay,
             max_nack_attempts,

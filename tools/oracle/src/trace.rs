@@ -1,7 +1,7 @@
 //! Lines of a trace (docs/TRACE.md) to calls.
 
 /// The longest line, its line feed not counted.
-const LONGEST_LINE: usize = 4095;
+const LONGEST_LINE: usize = 65_535;
 
 pub enum Line {
     PassedOver,
@@ -10,17 +10,27 @@ pub enum Line {
 }
 
 pub enum Call {
-    /// MODE CLOCK D G DELAY INITIAL RESEND MAX PT SSRC RTX RTXPT RTXSSRC
-    Open([u64; 13]),
+    /// MODE CLOCK D G DELAY INITIAL RESEND MAX PT SSRC RTX RTXPT RTXSSRC, and in mode 2 MIN MAXDELAY T
+    Open([u64; 13], Option<[u64; 3]>),
     Media(u64, Vec<u8>),
     Repair(u64, Vec<u8>),
+    /// NOW PLACES HEX and the ends
+    Burst(u64, u64, Vec<u8>, Vec<u64>),
     Poll(u64),
     PollNack(u64),
+    /// NOW PLACES
+    NackWire(u64, u64),
+    /// PLACES HEX; needs no session
+    ReadNacks(u64, Vec<u8>),
     TimeoutReceive(u64),
     TimeoutNack(u64),
     RtxStats,
     Highest,
     State,
+    /// HEX; needs no session
+    ReadSettings(Vec<u8>),
+    /// PLACES MODE CLOCK D G DELAY INITIAL RESEND MAX MIN MAXDELAY T; needs no session
+    WriteSettings([u64; 12]),
 }
 
 pub fn read(line: &[u8]) -> Line {
@@ -36,22 +46,30 @@ pub fn read(line: &[u8]) -> Line {
 fn call(line: &[u8]) -> Option<Call> {
     let fields: Vec<&[u8]> = line.split(|byte| *byte == b' ').collect();
     Some(match (fields[0], &fields[1..]) {
-        (b"open", numbers) if numbers.len() == 13 => {
-            let mut values = [0; 13];
-            for (value, field) in values.iter_mut().zip(numbers) {
-                *value = number(field)?;
-            }
-            Call::Open(values)
+        (b"open", [b"2", ..]) => {
+            let (first, dynamic) = fields[1..].split_at_checked(13)?;
+            Call::Open(numbers(first)?, Some(numbers(dynamic)?))
         }
+        (b"open", first) => Call::Open(numbers(first)?, None),
         (b"media", [now, hex]) => Call::Media(number(now)?, bytes(hex)?),
         (b"repair", [now, hex]) => Call::Repair(number(now)?, bytes(hex)?),
+        (b"burst", [now, places, hex, ends @ ..]) => Call::Burst(
+            number(now)?,
+            number(places)?,
+            bytes(hex)?,
+            ends.iter().map(|end| number(end)).collect::<Option<_>>()?,
+        ),
         (b"poll", [now]) => Call::Poll(number(now)?),
         (b"poll_nack", [now]) => Call::PollNack(number(now)?),
+        (b"nack_wire", [now, places]) => Call::NackWire(number(now)?, number(places)?),
+        (b"read_nacks", [places, hex]) => Call::ReadNacks(number(places)?, bytes(hex)?),
         (b"timeout_receive", [now]) => Call::TimeoutReceive(number(now)?),
         (b"timeout_nack", [now]) => Call::TimeoutNack(number(now)?),
         (b"rtx_stats", []) => Call::RtxStats,
         (b"highest", []) => Call::Highest,
         (b"state", []) => Call::State,
+        (b"read_settings", [hex]) => Call::ReadSettings(bytes(hex)?),
+        (b"write_settings", first) => Call::WriteSettings(numbers(first)?),
         _ => return None,
     })
 }
@@ -65,6 +83,12 @@ fn number(field: &[u8]) -> Option<u64> {
         b'0'..=b'9' => value.checked_mul(10)?.checked_add(u64::from(digit - b'0')),
         _ => None,
     })
+}
+
+/// As many numbers as there are places.
+fn numbers<const N: usize>(fields: &[&[u8]]) -> Option<[u64; N]> {
+    let values: Option<Vec<u64>> = fields.iter().map(|field| number(field)).collect();
+    values?.try_into().ok()
 }
 
 /// An even number of lower-case hexadecimal digits, or `-` for no bytes.

@@ -1,10 +1,10 @@
--- `numbers` is safe and ends: a number is written in each turn.
+-- `octets` is safe and ends: a number is written in each turn.
 use Prim.Native.Nat.{_≤_, _-_}
 use mathlib.Core.Path.{_≡_}
 use lib.ListN.{length}
 use borrow.Author.Needs.{needs}
-use Rattle.replay.proofs.answer.numbers.Statement.{statement}
-use Rattle.replay.proofs.answer.numbers.Tie as tie
+use Rattle.replay.proofs.put.octets.Statement.{statement}
+use Rattle.replay.proofs.put.octets.Tie as tie
 
 abbrev Inv-loop : tie.InvT-loop
 Inv-loop out₀ at list count to₀ i₀ out to i = (i ≤ count) × (length out ≡ length out₀)
@@ -21,14 +21,14 @@ same-length c = search needs
 returns : tie.Need-returns Inv-loop μ-loop
 returns c = search needs
 
-mul-wide : tie.Need-mul-wide Inv-loop μ-loop
-mul-wide c = search needs
+room-requires : tie.Need-room-requires Inv-loop μ-loop
+room-requires c κs = search needs
 
-shared-slice-read-wide : tie.Need-shared-slice-read-wide Inv-loop μ-loop
-shared-slice-read-wide c = search needs
+shared-slice-read-wide8 : tie.Need-shared-slice-read-wide8 Inv-loop μ-loop
+shared-slice-read-wide8 c = search needs
 
-wide-requires : tie.Need-wide-requires Inv-loop μ-loop
-wide-requires c κs = search needs
+wide8-requires : tie.Need-wide8-requires Inv-loop μ-loop
+wide8-requires c κs = search needs
 
 number-requires : tie.Need-number-requires Inv-loop μ-loop
 number-requires c κs = search needs
@@ -48,8 +48,8 @@ same-length-2 c = search needs
 returns-2 : tie.Need-returns-2 Inv-loop μ-loop
 returns-2 c = search needs
 
-pub numbers-spec : {M : Type 1} → statement M
-numbers-spec =
+pub octets-spec : {M : Type 1} → statement M
+octets-spec =
     tie.close
     (tie.spec
     Inv-loop
@@ -57,9 +57,9 @@ numbers-spec =
     loop-holds
     same-length
     returns
-    mul-wide
-    shared-slice-read-wide
-    wide-requires
+    room-requires
+    shared-slice-read-wide8
+    wide8-requires
     number-requires
     add-i
     loop-less
