@@ -52,3 +52,23 @@ fn late_joiner() {
 fn storm() {
     compare("examples/storm.trace", "examples/storm.answers");
 }
+
+#[test]
+fn wire() {
+    compare("examples/wire.trace", "examples/wire.answers");
+}
+
+#[test]
+fn burst() {
+    compare("examples/burst.trace", "examples/burst.answers");
+}
+
+#[test]
+fn dynamic() {
+    compare("examples/dynamic.trace", "examples/dynamic.answers");
+}
+
+#[test]
+fn settings() {
+    compare("examples/settings.trace", "examples/settings.answers");
+}

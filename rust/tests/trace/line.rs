@@ -1,12 +1,16 @@
 //! A line of a trace to a call.
 
 /// The longest line, its line feed not counted.
-const LONGEST_LINE: usize = 4095;
+const LONGEST_LINE: usize = 65_535;
 
 pub enum Call {
     /// MODE CLOCK D G DELAY INITIAL RESEND MAX PT SSRC RTX RTXPT RTXSSRC
     Open([u64; 13]),
+    /// The same in mode 2, and MIN MAXDELAY T
+    OpenDynamic([u64; 13], [u64; 3]),
     Media(u64, Vec<u8>),
+    /// NOW PLACES, the buffer, and the ends
+    Burst(u64, u64, Vec<u8>, Vec<u64>),
     Repair(u64, Vec<u8>),
     Poll(u64),
     PollNack(u64),
@@ -19,6 +23,9 @@ pub enum Call {
     RtxStats,
     Highest,
     State,
+    ReadSettings(Vec<u8>),
+    /// PLACES, and MODE CLOCK D G DELAY INITIAL RESEND MAX MIN MAXDELAY T
+    WriteSettings(u64, [u64; 11]),
 }
 
 /// None where the line is unreadable.
@@ -32,11 +39,15 @@ pub fn read(line: &[u8]) -> Option<Call> {
         None => (line, Vec::new()),
     };
     Some(match (word, rest.as_slice()) {
-        ("open", fields) => {
-            let numbers: Option<Vec<u64>> = fields.iter().map(|field| number(field)).collect();
-            Call::Open(numbers?.try_into().ok()?)
+        ("open", ["2", fields @ .., min, max, target]) => {
+            let fields = numbers(fields)?.try_into().ok()?;
+            Call::OpenDynamic(with_first(2, fields), [number(min)?, number(max)?, number(target)?])
         }
+        ("open", fields) => Call::Open(numbers(fields)?.try_into().ok()?),
         ("media", [now, bytes]) => Call::Media(number(now)?, hex(bytes)?),
+        ("burst", [now, places, bytes, ends @ ..]) => {
+            Call::Burst(number(now)?, number(places)?, hex(bytes)?, numbers(ends)?)
+        }
         ("repair", [now, bytes]) => Call::Repair(number(now)?, hex(bytes)?),
         ("poll", [now]) => Call::Poll(number(now)?),
         ("poll_nack", [now]) => Call::PollNack(number(now)?),
@@ -47,8 +58,22 @@ pub fn read(line: &[u8]) -> Option<Call> {
         ("rtx_stats", []) => Call::RtxStats,
         ("highest", []) => Call::Highest,
         ("state", []) => Call::State,
+        ("read_settings", [bytes]) => Call::ReadSettings(hex(bytes)?),
+        ("write_settings", [places, fields @ ..]) => {
+            Call::WriteSettings(number(places)?, numbers(fields)?.try_into().ok()?)
+        }
         _ => return None,
     })
+}
+
+fn numbers(fields: &[&str]) -> Option<Vec<u64>> {
+    fields.iter().map(|field| number(field)).collect()
+}
+
+fn with_first(first: u64, rest: [u64; 12]) -> [u64; 13] {
+    let mut all = [first; 13];
+    all[1..].copy_from_slice(&rest);
+    all
 }
 
 /// Decimal digits alone, no leading zero, at most 2^64 - 1.

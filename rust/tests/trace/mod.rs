@@ -2,7 +2,7 @@
 
 mod line;
 
-use bizhgemu::{Config, Media, Mode, Packet, Queue, Refusal, Repair, Rtx, read_nacks_into};
+use bizhgemu::{Config, Dynamic, LINE_BYTES, Media, Mode, Packet, Queue, Refusal, Repair, Rtx, read_nacks_into};
 use line::Call;
 use std::fmt::Display;
 use std::time::Duration;
@@ -21,7 +21,10 @@ impl Host {
             return vec!["unreadable".into()];
         };
         let answer = match (call, &mut self.0) {
-            (Call::Open(fields), _) => self.open(fields),
+            (Call::Open(fields), _) => self.open(fields, [0; 3]),
+            (Call::OpenDynamic(fields, dynamic), _) => self.open(fields, dynamic),
+            (Call::ReadSettings(bytes), _) => read_settings(&bytes).map(|line| vec![line]),
+            (Call::WriteSettings(places, fields), _) => write_settings(places, fields).map(|line| vec![line]),
             (Call::ReadNacks(places, bytes), _) => read_nacks(places, &bytes).map(|line| vec![line]),
             (_, None) => Ok(vec!["no session".into()]),
             (Call::State, Some(queue)) => state(queue),
@@ -30,8 +33,8 @@ impl Host {
         answer.unwrap_or_else(|refusal| vec![format!("refused {}", refusal.number())])
     }
 
-    fn open(&mut self, fields: [u64; 13]) -> Result<Vec<String>, Refusal> {
-        let config = config(fields).ok_or(Refusal::Settings)?;
+    fn open(&mut self, fields: [u64; 13], dynamic: [u64; 3]) -> Result<Vec<String>, Refusal> {
+        let config = config(fields, dynamic).ok_or(Refusal::Settings)?;
         self.0 = Some(Queue::open(&config)?);
         Ok(vec!["opened".into()])
     }
@@ -39,23 +42,13 @@ impl Host {
 
 /// None where a field does not fit the type it has in `Config`, which is refused under 1 as well (docs/TRACE.md). The payload type
 /// of repairs counts where there are none, too.
-fn config(fields: [u64; 13]) -> Option<Config> {
+fn config(fields: [u64; 13], dynamic: [u64; 3]) -> Option<Config> {
     let [mode, clock_rate, max_entries, max_gaps, delay, initial, resend, max, ..] = fields;
     let [.., payload_type, ssrc, rtx, rtx_pt, rtx_ssrc] = fields;
+    let [min, longest, target] = dynamic;
     let repairs = Rtx::new(u8::try_from(rtx_pt).ok().filter(|pt| *pt <= 127)?, rtx_ssrc.try_into().ok()?);
-    let mut config = Config::default();
-    config.mode = match mode {
-        0 => Mode::Passthrough,
-        1 => Mode::SortedQueue,
-        _ => return None,
-    };
-    config.clock_rate = clock_rate.try_into().ok()?;
-    config.delay = Duration::from_nanos(delay);
-    config.max_entries = max_entries.try_into().ok()?;
-    config.max_gaps = max_gaps.try_into().ok()?;
-    config.initial_nack_delay = Duration::from_nanos(initial);
-    config.default_nack_resend_delay = Duration::from_nanos(resend);
-    config.max_nack_attempts = max.try_into().ok()?;
+    let kept = [mode, clock_rate, max_entries, max_gaps, delay, initial, resend, max, min, longest, target];
+    let mut config = settings(kept)?;
     config.payload_type = payload_type.try_into().ok()?;
     config.ssrc = ssrc.try_into().ok()?;
     config.rtx = match rtx {
@@ -66,6 +59,64 @@ fn config(fields: [u64; 13]) -> Option<Config> {
     Some(config)
 }
 
+/// Those of the settings that a line keeps; none where one does not fit its type, or has no place in its mode.
+fn settings(fields: [u64; 11]) -> Option<Config> {
+    let [mode, clock_rate, max_entries, max_gaps, delay, initial, resend, max, min, longest, target] = fields;
+    let mut config = Config::default();
+    let mut dynamic = Dynamic::default();
+    (dynamic.min, dynamic.max) = (Duration::from_nanos(min), Duration::from_nanos(longest));
+    dynamic.target_recovery = target;
+    config.mode = match (mode, [min, longest, target]) {
+        (0, [0, 0, 0]) => Mode::Passthrough,
+        (1, [0, 0, 0]) => Mode::SortedQueue,
+        (2, _) => Mode::Dynamic(dynamic),
+        _ => return None,
+    };
+    config.clock_rate = clock_rate.try_into().ok()?;
+    config.delay = Duration::from_nanos(delay);
+    config.max_entries = max_entries.try_into().ok()?;
+    config.max_gaps = max_gaps.try_into().ok()?;
+    config.initial_nack_delay = Duration::from_nanos(initial);
+    config.default_nack_resend_delay = Duration::from_nanos(resend);
+    config.max_nack_attempts = max.try_into().ok()?;
+    Some(config)
+}
+
+fn read_settings(line: &[u8]) -> Result<String, Refusal> {
+    let config = Config::from_line(line).map_err(|error| error.refusal)?;
+    let (mode, dynamic) = match config.mode {
+        Mode::Passthrough => (0, [0; 3]),
+        Mode::SortedQueue => (1, [0; 3]),
+        Mode::Dynamic(dynamic) => (2, [dynamic.min.as_nanos(), dynamic.max.as_nanos(), dynamic.target_recovery.into()]),
+        other => unreachable!("{other:?}"),
+    };
+    let sizes = [config.clock_rate as u128, config.max_entries as u128, config.max_gaps as u128];
+    let durations =
+        [config.delay, config.initial_nack_delay, config.default_nack_resend_delay].map(|duration| duration.as_nanos());
+    let fields = [&[mode], &sizes[..], &durations, &[config.max_nack_attempts.into()], &dynamic].concat();
+    Ok(fields.iter().fold("settings".to_string(), |line, field| format!("{line} {field}")))
+}
+
+fn write_settings(places: u64, fields: [u64; 11]) -> Result<String, Refusal> {
+    let line = settings(fields).ok_or(Refusal::Settings)?.to_line()?;
+    // the crate lends a whole one
+    if places < LINE_BYTES as u64 { Err(Refusal::Output) } else { Ok(format!("line {}", hex(&line))) }
+}
+
+fn burst(queue: &mut Queue, now: Duration, places: u64, buffer: &[u8], ends: &[u64]) -> Result<String, Refusal> {
+    // the crate lends a place to each
+    if places < ends.len() as u64 {
+        return Err(Refusal::Output);
+    }
+    let answers = queue.push_burst(now, buffer, ends)?.into_iter().map(|answer| match answer {
+        Ok(Media::Queued) => 0,
+        Ok(_) => 255,
+        Err(refusal) => refusal.number(),
+    });
+    let line = answers.fold("answers".to_string(), |line, answer| format!("{line} {answer}"));
+    Ok(if ends.is_empty() { "nothing".into() } else { line })
+}
+
 fn make(queue: &mut Queue, call: Call) -> Result<String, Refusal> {
     let at = Duration::from_nanos;
     Ok(match call {
@@ -74,6 +125,7 @@ fn make(queue: &mut Queue, call: Call) -> Result<String, Refusal> {
             Media::Dropped => "dropped".into(),
             other => format!("{other:?}"),
         },
+        Call::Burst(now, places, bytes, ends) => burst(queue, at(now), places, &bytes, &ends)?,
         Call::Repair(now, bytes) => match queue.push_rtx(at(now), &bytes)? {
             Repair::Recovered => "recovered".into(),
             Repair::Redundant => "redundant".into(),
@@ -96,7 +148,8 @@ fn make(queue: &mut Queue, call: Call) -> Result<String, Refusal> {
             Some(number) => format!("highest {number}"),
             None => "none".into(),
         },
-        Call::Open(_) | Call::State | Call::ReadNacks(..) => unreachable!("answered by the host"),
+        Call::Open(_) | Call::OpenDynamic(..) | Call::State => unreachable!("answered by the host"),
+        Call::ReadNacks(..) | Call::ReadSettings(_) | Call::WriteSettings(..) => unreachable!("answered by the host"),
     })
 }
 
