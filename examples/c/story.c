@@ -1,5 +1,5 @@
-/* A stream with a loss, a NACK, repairs and a strange datagram, through the queue; then in passthrough a loss that is asked for by an RTCP
- * packet, and the latest instant. `make -C examples/c` builds it, runs it and compares what it prints with story.expected. */
+/* A stream with a loss, a NACK, repairs and a strange datagram, through the queue; then datagrams that come together, under a dynamic delay; then
+ * in passthrough a loss that is asked for by an RTCP packet, and the latest instant. `make -C examples/c` builds it, runs it and compares what it prints with story.expected. */
 
 #include "bizhgemu.h"
 
@@ -81,6 +81,35 @@ static void push_rtx(struct bizhgemu_queue *q, uint64_t ms, uint16_t number)
 		printf("%3d ms  repair %5u: refused under %d\n", (int)ms, number, (int)r.refusal);
 	else
 		printf("%3d ms  repair %5u: %s\n", (int)ms, number, repair_answer(r.answer));
+}
+
+static const char *burst_answer(uint8_t answer)
+{
+	switch (answer) {
+	case BIZHGEMU_ANSWER_QUEUED: return "queued";
+	case BIZHGEMU_ANSWER_DROPPED: return "dropped";
+	default: return bizhgemu_refusal_text(answer);
+	}
+}
+
+/* Datagrams that came together, one behind the other in a buffer: two numbers, bytes that are no packet, and the second number again. Whether the call was
+ * refused. */
+static int push_together(struct bizhgemu_queue *q, uint64_t ms)
+{
+	enum { SIZE = 12 + PAYLOAD, COUNT = 4 };
+	static const uint16_t numbers[COUNT] = {65535, 0, 0, 0};
+	uint8_t buffer[COUNT * SIZE], answers[COUNT];
+	uint64_t ends[COUNT];
+	for (size_t i = 0; i < COUNT; i++) {
+		header(buffer + i * SIZE, PT, numbers[i], timestamp_of(numbers[i]), SSRC);
+		memset(buffer + i * SIZE + 12, numbers[i] & 0xff, PAYLOAD);
+		ends[i] = (i + 1) * SIZE;
+	}
+	buffer[2 * SIZE] = 0; /* version 0 */
+	const struct bizhgemu_pushed_burst r = bizhgemu_queue_push_burst(q, ms * MS, buffer, sizeof buffer, ends, COUNT, answers, COUNT);
+	for (size_t i = 0; i < r.answers; i++)
+		printf("%3d ms  together %5u: %s\n", (int)ms, numbers[i], burst_answer(answers[i]));
+	return r.refusal != 0;
 }
 
 /* What a host does when it wakes: NACKs, then packets until none is due, then sleep. Whether a call was refused. */
@@ -169,6 +198,7 @@ int main(void)
 	};
 	const struct bizhgemu_config config = {
 		.delay = 60 * MS, .initial_nack_delay = 5 * MS, .default_nack_resend_delay = 20 * MS,
+		.min_delay = 30 * MS, .max_delay = 200 * MS, .target_recovery = 9900, /* looked at in BIZHGEMU_DYNAMIC alone */
 		.max_entries = D, .max_gaps = G, .clock_rate = 8000, .max_nack_attempts = 3,
 		.pt = PT, .ssrc = SSRC, .has_rtx = 1, .rtx_pt = RTX_PT, .rtx_ssrc = RTX_SSRC,
 	};
@@ -192,6 +222,16 @@ int main(void)
 	failed |= wake(&q, 140);
 	push_rtx(&q, 141, 0); /* handed out long since */
 	failed |= figures(&q);
+
+	printf("with a dynamic delay\n");
+	if (open_in(&q, config, BIZHGEMU_DYNAMIC))
+		return 1;
+	push(&q, 0, 65534, SSRC);
+	failed |= wake(&q, 30);
+	failed |= push_together(&q, 60);
+	failed |= wake(&q, 60);
+	failed |= wake(&q, 70);
+	failed |= wake(&q, 90);
 
 	printf("in passthrough\n");
 	if (open_in(&q, config, BIZHGEMU_PASSTHROUGH))

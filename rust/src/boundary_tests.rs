@@ -219,7 +219,7 @@ fn a_used_session_has_each_word_in_its_place() {
     let queue = used();
     let (jitter, loss) = (queue.session.jitter_bits, queue.session.loss_bits);
     assert!(f64::from_bits(jitter) > 0.0 && f32::from_bits(loss) > 0.0);
-    let settings = [100 * MS, 5 * MS, 20 * MS, 3, 999, 8000, 3, 1, 1];
+    let settings = [100 * MS, 5 * MS, 20 * MS, 0, 0, 0, 3, 999, 8000, 3, 1, 1];
     let senders = [SSRC.into(), RTX.ssrc.into(), 5, 97];
     let (number, timestamp) = (queue.session.last_number & !0xffff, queue.session.last_timestamp & !0xffff_ffff);
     let received = [126 * MS, 1, 121 * MS, timestamp + 800, number + 15, 1, number + 12];
@@ -229,6 +229,145 @@ fn a_used_session_has_each_word_in_its_place() {
     let lists = [2, 1, 1, u64::from(loss)];
     let expected = [&settings[..], &senders, &received, &repairs, &counters, &floats, &lists].concat();
     assert_eq!(words(&queue.session), expected);
+}
+
+/// The three words of a dynamic delay are a session's in mode 2. In another mode nothing looks at them, and the session has zeros there.
+#[test]
+fn the_words_of_a_dynamic_delay_are_those_of_its_mode() {
+    let Queue { mut storage, .. } = used();
+    let three = |session: &ffi::Session| {
+        let c = &session.config;
+        [c.min_delay, c.max_delay, c.target_recovery]
+    };
+    for (mode, given, expected) in [
+        (0, [1, 2, 3], [0; 3]),
+        (1, [5, 4, 10_000], [0; 3]),
+        (1, [u64::MAX; 3], [0; 3]),
+        (2, [1, 2, 3], [1, 2, 3]),
+        (2, [MINUTE, MINUTE, 9_999], [MINUTE, MINUTE, 9_999]),
+    ] {
+        let [min_delay, max_delay, target_recovery] = given;
+        let words = ffi::Config { mode, min_delay, max_delay, target_recovery, ..config().words() };
+        let opened = storage.open(words);
+        assert_eq!((opened.refusal, three(&opened.session)), (0, expected), "mode {mode}, {given:?}");
+    }
+    for given in [[3, 2, 0], [0, MINUTE + 1, 0], [MINUTE + 1, MINUTE + 1, 0], [0, 0, 10_000], [u64::MAX; 3]] {
+        let [min_delay, max_delay, target_recovery] = given;
+        let words = ffi::Config { mode: 2, min_delay, max_delay, target_recovery, ..config().words() };
+        assert_eq!(storage.open(words).refusal, 1, "{given:?}");
+    }
+    let words = ffi::Config { mode: 2, max_nack_attempts: 5, ..config().words() };
+    assert_eq!(storage.open(words).refusal, 1);
+    assert_eq!(storage.open(ffi::Config { max_nack_attempts: 4, ..words }).refusal, 0);
+}
+
+/// Session and storage of `used` in mode 2: the delay that a packet is handed out with is that of jitter, loss and round trip, within its two ends.
+#[test]
+fn a_dynamic_delay_is_kept_within_its_ends() {
+    let poll = |min_delay, max_delay| {
+        let mut lent = lent();
+        let config = &mut lent.session.config;
+        (config.mode, config.min_delay, config.max_delay, config.target_recovery) = (2, min_delay, max_delay, 9_900);
+        assert_eq!(refusals(&lent, 130 * MS), [0; 10]);
+        let (place, length) = (lent.payload.as_mut_ptr(), lent.payload.len());
+        let polled = lend!(bizhgemu_poll, lent.session, lent.storage, END, place, length);
+        assert_eq!((polled.refusal, polled.has_packet, polled.packet.sequence_number), (0, 1, 13));
+        polled.packet.delay
+    };
+    let free = poll(0, MINUTE);
+    assert!(free > 0 && free < MINUTE, "{free}");
+    assert_eq!(
+        [poll(free, MINUTE), poll(free + 1, MINUTE), poll(0, free), poll(0, free - 1)],
+        [free, free + 1, free, free - 1]
+    );
+    assert_eq!(poll(7 * MS, 7 * MS), 7 * MS);
+}
+
+// ---- a settings line (02, point 13)
+
+/// Words set by hand: what the writer refuses, and that it then writes nothing.
+#[test]
+fn words_without_a_line_are_refused() {
+    let fixed = ffi::Settings::of(&config().words());
+    let dynamic = ffi::Settings { mode: 2, delay: 0, min_delay: 5, max_delay: 6, target_recovery: 7, ..fixed };
+    let passthrough = ffi::Settings { mode: 0, delay: 0, ..fixed };
+    for (what, settings, refused) in [
+        ("fixed", fixed, 0),
+        ("dynamic", dynamic, 0),
+        ("passthrough", passthrough, 0),
+        ("a mode that is none", ffi::Settings { mode: 3, ..dynamic }, 1),
+        ("a delay in mode 0", ffi::Settings { delay: 1, ..passthrough }, 1),
+        ("a delay in mode 2", ffi::Settings { delay: 1, ..dynamic }, 1),
+        ("min in mode 0", ffi::Settings { min_delay: 5, ..passthrough }, 1),
+        ("max in mode 0", ffi::Settings { max_delay: 6, ..passthrough }, 1),
+        ("target in mode 0", ffi::Settings { target_recovery: 7, ..passthrough }, 1),
+        ("min in mode 1", ffi::Settings { min_delay: 5, ..fixed }, 1),
+        ("max in mode 1", ffi::Settings { max_delay: 6, ..fixed }, 1),
+        ("target in mode 1", ffi::Settings { target_recovery: 7, ..fixed }, 1),
+        ("min above max", ffi::Settings { min_delay: 7, ..dynamic }, 1),
+        ("target", ffi::Settings { target_recovery: 10_000, ..dynamic }, 1),
+        ("attempts in mode 2", ffi::Settings { max_nack_attempts: 5, ..dynamic }, 1),
+        ("G", ffi::Settings { max_gaps: 998, ..dynamic }, 1),
+    ] {
+        let mut out = [0xaa; 146];
+        // SAFETY: the array lives until the call returns.
+        let written = unsafe { ffi::bizhgemu_write_settings(settings, out.as_mut_ptr(), out.len()) };
+        assert_eq!((written.refusal, written.bytes), (refused, if refused == 0 { 145 } else { 0 }), "{what}");
+        assert_eq!(out[144..], if refused == 0 { [b'\n', 0xaa] } else { [0xaa; 2] }, "{what}");
+        assert!(refused == 0 || out == [0xaa; 146], "{what}");
+        // 15 after 1
+        // SAFETY: as above, and one byte less than a line has is lent.
+        let short = unsafe { ffi::bizhgemu_write_settings(settings, out.as_mut_ptr(), 144) };
+        assert_eq!((short.refusal, short.bytes), (if refused == 0 { 15 } else { refused }, 0), "{what}");
+        if refused == 0 {
+            // SAFETY: as above; read alone.
+            let read = unsafe { ffi::bizhgemu_read_settings(out.as_ptr(), 145) };
+            assert_eq!((read.refusal, read.settings), (0, settings), "{what}");
+        }
+    }
+}
+
+/// Lines set by hand: 21 ahead of 20 ahead of 1, and words of zeros with each.
+#[test]
+fn a_refused_line_has_words_of_zeros() {
+    let line = Config::default().to_line().unwrap();
+    let but = |changes: &[(usize, u8)], length: usize| {
+        let mut bytes = line.to_vec();
+        changes.iter().for_each(|(place, byte)| bytes[*place] = *byte);
+        bytes.resize(length, b' ');
+        bytes
+    };
+    let zeros = ffi::Settings {
+        delay: 0,
+        initial_nack_delay: 0,
+        default_nack_resend_delay: 0,
+        min_delay: 0,
+        max_delay: 0,
+        target_recovery: 0,
+        max_entries: 0,
+        max_gaps: 0,
+        clock_rate: 0,
+        max_nack_attempts: 0,
+        mode: 0,
+    };
+    for (bytes, refused) in [
+        (but(&[(23, b'3')], 145), 1),
+        (but(&[(143, b'1')], 145), 1), // a target in mode 1
+        (but(&[(23, b'3'), (35, b'x')], 145), 20),
+        (but(&[(144, b' ')], 145), 20),
+        (but(&[], 144), 20),
+        (but(&[], 146), 20),
+        (but(&[(11, b'1')], 145), 20), // the length of version 2
+        (but(&[], 12), 20),
+        (but(&[(11, b'3'), (35, b'x'), (23, b'3')], 145), 21),
+        (but(&[(0, b'0')], 145), 21),
+        (but(&[], 11), 21),
+        (but(&[], 0), 21),
+    ] {
+        // SAFETY: the bytes live until the call returns, and are read alone.
+        let read = unsafe { ffi::bizhgemu_read_settings(bytes.as_ptr(), bytes.len()) };
+        assert_eq!((read.refusal, read.settings), (refused, zeros), "{:?}", String::from_utf8_lossy(&bytes));
+    }
 }
 
 /// A slice of another length, the elements as they were.

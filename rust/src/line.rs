@@ -237,8 +237,11 @@ mod tests {
         // SAFETY: as above.
         let written = unsafe { ffi::bizhgemu_write_settings(settings, out.as_mut_ptr(), out.len()) };
         assert_eq!((written.refusal, written.bytes, &out[144..]), (0, 145, &b"\n\x07\x07"[..]));
-        let no_mode = ffi::Settings { mode: 3, ..settings };
-        // SAFETY: as above.
-        assert_eq!(unsafe { ffi::bizhgemu_write_settings(no_mode, out.as_mut_ptr(), out.len()) }.refusal, 1);
+        // a mode that is none; what mode 2 alone has
+        for wrong in [ffi::Settings { mode: 3, ..settings }, ffi::Settings { target_recovery: 1, ..settings }] {
+            // SAFETY: as above.
+            let written = unsafe { ffi::bizhgemu_write_settings(wrong, out.as_mut_ptr(), out.len()) };
+            assert_eq!((written.refusal, written.bytes), (1, 0));
+        }
     }
 }

@@ -122,7 +122,7 @@ const TABLE: [(Refusal, &str, &str); 19] = [
         Refusal::Output,
         "the lent output is too short",
         "lend `poll` at least 320 bytes, `poll_nack` `max_gaps` numbers, `nack_wire` 4 bytes for each of them, `read_nacks` 17 numbers for \
-         each four bytes",
+         each four bytes, a settings line 145 bytes, a burst an answer for each of its ends; a burst's ends ascend, up to its buffer's",
     ),
     (
         Refusal::Session,
@@ -212,6 +212,7 @@ mod tests {
         }
         assert_eq!(Refusal::from_number(0), None);
         assert_eq!(Refusal::from_number(18), None);
+        assert_eq!(Refusal::from_number(19), None);
         assert_eq!(Refusal::from_number(22), None);
         assert_eq!(Refusal::from_number(u64::MAX), None);
     }

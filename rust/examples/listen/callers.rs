@@ -1,5 +1,6 @@
 //! Who is heard, and what goes out: one receiver to a caller.
 
+use crate::burst::{Burst, Came};
 use crate::figures::Writer;
 use crate::nacks::{Asking, Nacks};
 use crate::options::Options;
@@ -58,19 +59,35 @@ impl<'a> Callers<'a> {
         Ok(self.list.last_mut().expect("just opened"))
     }
 
-    /// Hands a datagram to whom it belongs.
-    pub fn take(&mut self, now: Duration, datagram: &[u8], source: SocketAddr) {
-        let Some(caller) = self.caller_of(now, datagram) else {
-            self.elsewhere += 1;
+    /// Hands datagrams that came together to whom they belong, each caller its own in their order.
+    pub fn take(&mut self, now: Duration, burst: &Burst) {
+        let mut datagrams = burst.datagrams();
+        let sender = |(datagram, _): &Came| Header::of(datagram).map(|header| header.ssrc);
+        let alone = self.options.callers == 1;
+        if !alone {
+            datagrams.sort_by_key(sender);
+        }
+        for part in datagrams.chunk_by(|one, next| alone || sender(one) == sender(next)) {
+            self.take_of_one(now, part);
+        }
+    }
+
+    fn take_of_one(&mut self, now: Duration, part: &[Came]) {
+        let Some(caller) = self.caller_of(now, part[0].0) else {
+            self.elsewhere += part.len() as u64;
             return;
         };
         caller.heard_at = now;
-        let taken = caller.receiver.take(now, datagram);
-        // whoever is refused is not asked
-        if matches!(taken, Taken::Queued | Taken::Recovered) {
-            caller.source = Some(source);
+        let datagrams: Vec<&[u8]> = part.iter().map(|(datagram, _)| *datagram).collect();
+        let taken = caller.receiver.take_burst(now, &datagrams);
+        caller.report.came(part.len());
+        for ((datagram, source), taken) in part.iter().zip(taken) {
+            // whoever is refused is not asked
+            if matches!(taken, Taken::Queued | Taken::Recovered) {
+                caller.source = Some(*source);
+            }
+            caller.report.taken(taken, datagram);
         }
-        caller.report.taken(taken, datagram);
     }
 
     fn caller_of(&mut self, now: Duration, datagram: &[u8]) -> Option<&mut Caller> {
@@ -147,6 +164,9 @@ impl<'a> Callers<'a> {
 
     pub fn end(&mut self) -> io::Result<()> {
         if let Some(told) = self.asking.told() {
+            eprintln!("{told}");
+        }
+        for told in self.list.iter().filter_map(|caller| caller.report.bursts_told()) {
             eprintln!("{told}");
         }
         self.wavs.values_mut().try_for_each(Wav::settle)

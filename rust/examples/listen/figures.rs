@@ -21,12 +21,16 @@ pub struct Figures {
     pub loss: f32,
     pub jitter_ms: f64,
     pub round_trip_ms: Option<f64>,
+    /// The delay of the packet handed out last.
+    pub delay_ms: Option<f64>,
     pub waiting: usize,
     pub missing: usize,
     pub out: u64,
     pub nacked: u64,
     pub recovered: u64,
     pub not_needed: u64,
+    /// The most datagrams taken together since the line before.
+    pub most_together: usize,
     /// By number, from 1.
     pub refused: Vec<u64>,
     /// Packets handed out since the line before, by their time in the queue.
@@ -36,7 +40,7 @@ pub struct Figures {
 impl Figures {
     /// Name and value; none is empty.
     fn plain(&self) -> Vec<(&'static str, String)> {
-        let round_trip = self.round_trip_ms.map_or(String::new(), |ms| format!("{ms:.3}"));
+        let milliseconds = |ms: Option<f64>| ms.map_or(String::new(), |ms| format!("{ms:.3}"));
         vec![
             ("second", self.second.to_string()),
             ("ssrc", self.ssrc.to_string()),
@@ -46,13 +50,15 @@ impl Figures {
             ("lost", self.lost.to_string()),
             ("loss", format!("{:.6}", self.loss)),
             ("jitter_ms", format!("{:.3}", self.jitter_ms)),
-            ("round_trip_ms", round_trip),
+            ("round_trip_ms", milliseconds(self.round_trip_ms)),
+            ("delay_ms", milliseconds(self.delay_ms)),
             ("waiting", self.waiting.to_string()),
             ("missing", self.missing.to_string()),
             ("out", self.out.to_string()),
             ("nacked", self.nacked.to_string()),
             ("recovered", self.recovered.to_string()),
             ("not_needed", self.not_needed.to_string()),
+            ("most_together", self.most_together.to_string()),
         ]
     }
 

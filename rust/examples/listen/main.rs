@@ -3,6 +3,7 @@
 //! It sleeps for as long as the queue's timeouts say, opens new sessions by itself (`Receiver`), and shows the signs by which trouble with
 //! real senders is known (docs/USING.md). `cargo run --example listen -- --help` has the options.
 
+mod burst;
 mod callers;
 mod figures;
 mod nacks;
@@ -11,9 +12,10 @@ mod report;
 mod wav;
 
 use bizhgemu::Clock;
+use burst::Burst;
 use callers::Callers;
 use options::{Options, USAGE};
-use std::io::{self, ErrorKind};
+use std::io;
 use std::net::UdpSocket;
 use std::process::ExitCode;
 use std::time::Duration;
@@ -48,7 +50,7 @@ fn listen(options: &Options) -> io::Result<()> {
     let socket = UdpSocket::bind(&options.address).map_err(|error| options::of_file(&options.address, error))?;
     let clock = Clock::start();
     let mut callers = Callers::new(options, &socket, clock.now())?;
-    let mut datagram = vec![0; 65_536];
+    let mut burst = Burst::new();
     let mut next_report = SECOND;
     loop {
         let now = clock.now();
@@ -62,12 +64,7 @@ fn listen(options: &Options) -> io::Result<()> {
         }
         let wait = callers.timeout(now).min(next_report.saturating_sub(now));
         socket.set_read_timeout(Some(wait.max(SHORTEST_WAIT)))?;
-        match socket.recv_from(&mut datagram) {
-            Ok((length, source)) => callers.take(clock.now(), &datagram[..length], source),
-            Err(error)
-                if matches!(error.kind(), ErrorKind::WouldBlock | ErrorKind::TimedOut | ErrorKind::Interrupted) => {}
-            Err(error) if nacks::unanswered(&error) => {}
-            Err(error) => return Err(error),
-        }
+        burst.receive(&socket)?;
+        callers.take(clock.now(), &burst);
     }
 }

@@ -2,7 +2,7 @@
 
 use crate::nacks::Nacks;
 use crate::wav::Format;
-use bizhgemu::{Config, Mode, Rtx, Rules, Sender};
+use bizhgemu::{Config, Dynamic, Mode, Rtx, Rules, Sender};
 use std::fs::File;
 use std::io::{self, Write};
 use std::time::Duration;
@@ -19,6 +19,10 @@ Hears RTP from a UDP port: payloads out in order, a line of figures each second 
   --callers N          with --ssrc any: how many senders are heard at a time   1
   --clock-rate HZ      clock rate of its timestamps                  8000
   --delay MS           how long packets are kept, or `none`          100
+  --dynamic            no fixed delay, but one that follows jitter, loss and round trip; has no value
+  --min-delay MS       its shortest                                  10
+  --max-delay MS       its longest                                   400
+  --target SHARE       of what is lost, how much the NACKs it leaves time for are to recover, below 1   0.99
   --depth D            most packets kept                             100
   --gaps G             most numbers missing at a time                999
   --rtx-pt N           payload type of repairs                       no repairs
@@ -61,6 +65,9 @@ pub struct Options {
     /// Where the settings are to be written.
     pub write_settings: Option<String>,
     rtx_ssrc: Option<u32>,
+    min_delay: Option<Duration>,
+    max_delay: Option<Duration>,
+    target: Option<u64>,
     format: Option<Format>,
     channels: Option<u16>,
     out: Option<String>,
@@ -81,11 +88,19 @@ impl Options {
             figures: None,
             write_settings: None,
             rtx_ssrc: None,
+            min_delay: None,
+            max_delay: None,
+            target: None,
             format: None,
             channels: None,
             out: None,
         };
         while let Some(word) = words.next() {
+            if word == "--dynamic" {
+                options.config.mode = Mode::Dynamic(Dynamic::default());
+                options.config.delay = Duration::ZERO;
+                continue;
+            }
             let value =
                 words.next().ok_or_else(|| format!("{word}: an option is followed by its value; see listen --help"))?;
             if word == "--settings" {
@@ -110,7 +125,10 @@ impl Options {
             "--callers" => self.callers = number::<usize>(value).filter(|callers| *callers > 0)?,
             "--clock-rate" => config.clock_rate = number(value)?,
             "--delay" if value == "none" => (config.mode, config.delay) = (Mode::Passthrough, Duration::ZERO),
-            "--delay" => config.delay = Duration::from_millis(number(value)?),
+            "--delay" => (config.mode, config.delay) = (Mode::SortedQueue, Duration::from_millis(number(value)?)),
+            "--min-delay" => self.min_delay = Some(Duration::from_millis(number(value)?)),
+            "--max-delay" => self.max_delay = Some(Duration::from_millis(number(value)?)),
+            "--target" => self.target = Some(share(value)?),
             "--depth" => config.max_entries = number(value)?,
             "--gaps" => config.max_gaps = number(value)?,
             "--rtx-pt" => config.rtx = Some(Rtx::new(number(value)?, 0)),
@@ -158,6 +176,7 @@ impl Options {
         } else if self.rtx_ssrc.is_some() {
             return Err("--rtx-ssrc: repairs need --rtx-pt too".into());
         }
+        self.settle_dynamic()?;
         if self.ssrc.is_none() && self.callers == 1 {
             self.rules.sender = Sender::follow();
         }
@@ -169,6 +188,18 @@ impl Options {
         }
         if self.wav.is_some() && self.sound().is_none() {
             return Err(format!("--wav: give --format for payload type {}", self.config.payload_type));
+        }
+        Ok(())
+    }
+
+    /// What is said of a dynamic delay, if it is one.
+    fn settle_dynamic(&mut self) -> Result<(), String> {
+        if let Mode::Dynamic(dynamic) = &mut self.config.mode {
+            dynamic.min = self.min_delay.unwrap_or(dynamic.min);
+            dynamic.max = self.max_delay.unwrap_or(dynamic.max);
+            dynamic.target_recovery = self.target.unwrap_or(dynamic.target_recovery);
+        } else if self.min_delay.is_some() || self.max_delay.is_some() || self.target.is_some() {
+            return Err("--min-delay, --max-delay, --target: of a delay that is --dynamic".into());
         }
         Ok(())
     }
@@ -217,4 +248,10 @@ fn number<T: TryFrom<u64>>(value: &str) -> Option<T> {
         None => value.parse(),
     };
     number.ok()?.try_into().ok()
+}
+
+/// Ten thousandths of a share below 1, which has up to four digits after its point.
+fn share(value: &str) -> Option<u64> {
+    let digits = value.strip_prefix("0.").filter(|digits| (1..=4).contains(&digits.len()))?;
+    digits.bytes().all(|digit| digit.is_ascii_digit()).then(|| format!("{digits:0<4}").parse().ok())?
 }

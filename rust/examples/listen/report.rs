@@ -24,7 +24,19 @@ pub struct Report {
     /// Numbers NACKed when it was last said that no repair comes.
     unanswered: u64,
     held: [u64; HELD],
+    /// The delay that the latest packet was handed out with.
+    delay: Option<Duration>,
+    bursts: Bursts,
     before: Before,
+}
+
+/// Datagrams taken together, two and more: how often, how many in all, the most at a time, and that since the line before.
+#[derive(Default)]
+struct Bursts {
+    calls: u64,
+    datagrams: u64,
+    most: usize,
+    most_now: usize,
 }
 
 impl Report {
@@ -40,8 +52,27 @@ impl Report {
             advised: false,
             unanswered: 0,
             held: [0; HELD],
+            delay: None,
+            bursts: Bursts::default(),
             before: Before::default(),
         }
+    }
+
+    /// So many datagrams came together.
+    pub fn came(&mut self, together: usize) {
+        let bursts = &mut self.bursts;
+        bursts.most_now = bursts.most_now.max(together);
+        if together > 1 {
+            bursts.calls += 1;
+            bursts.datagrams += together as u64;
+            bursts.most = bursts.most.max(together);
+        }
+    }
+
+    /// What is told at the end.
+    pub fn bursts_told(&self) -> Option<String> {
+        let Bursts { calls, datagrams, most, .. } = self.bursts;
+        (calls > 0).then(|| format!("{datagrams} datagrams came together in {calls} bursts, the most at a time {most}"))
     }
 }
 
@@ -86,6 +117,7 @@ impl Report {
     }
 
     pub fn handed_out(&mut self, now: Duration, heard: &Heard<'_>) {
+        self.delay = Some(heard.packet.delay);
         if let Some(came) = heard.packet.received_at {
             let held = now.saturating_sub(came).as_secs_f64() * 1e3 / HELD_STEP_MS;
             self.held[(held as usize).min(HELD - 1)] += 1;
@@ -112,7 +144,7 @@ impl Report {
         if !receiver.has_sender() {
             line += "nobody yet";
         } else {
-            line += &told(&figures);
+            line += &told(&figures, receiver.config().mode);
         }
         eprintln!("{line}{}", refusals(&figures.refused));
         if self.before.session != figures.session {
@@ -141,6 +173,7 @@ impl Report {
             loss: figures.loss,
             jitter_ms: figures.jitter.as_secs_f64() * 1e3,
             round_trip_ms: receiver.rtx_stats().and_then(|rtx| rtx.rtt).map(|rtt| rtt.as_secs_f64() * 1e3),
+            delay_ms: self.delay.map(|delay| delay.as_secs_f64() * 1e3),
             waiting: receiver.queue().waiting().len(),
             missing: receiver.queue().gaps().len(),
             out: tally.handed_out,
@@ -152,6 +185,7 @@ impl Report {
                 .filter(|refusal| refusal.number() < 20)
                 .map(|refusal| tally.refused(refusal))
                 .collect(),
+            most_together: std::mem::take(&mut self.bursts.most_now),
             held: std::mem::replace(&mut self.held, [0; HELD]),
         })
     }
@@ -240,12 +274,12 @@ impl Report {
         }
         let depth = config.max_entries;
         Some(match config.mode {
-            Mode::SortedQueue => format!(
+            Mode::Passthrough => format!("{pushed_out} pushed out: D = {depth} came between two polls"),
+            mode => format!(
                 "{pushed_out} pushed out before they were due: D = {depth} is not above delay / packet time, or they came all at once; keep \
                  at least {} at 20 ms",
-                config.delay.as_millis().div_ceil(20) + 1
+                longest_delay(mode, config.delay).as_millis().div_ceil(20) + 1
             ),
-            _ => format!("{pushed_out} pushed out: D = {depth} came between two polls"),
         })
     }
 
@@ -291,15 +325,29 @@ impl Report {
     }
 }
 
-fn told(figures: &Figures) -> String {
-    let round_trip = figures.round_trip_ms.map_or("-".to_string(), |ms| format!("{ms:.2} ms"));
+/// The longest that a packet is kept.
+fn longest_delay(mode: Mode, fixed: Duration) -> Duration {
+    match mode {
+        Mode::Dynamic(dynamic) => dynamic.max,
+        _ => fixed,
+    }
+}
+
+fn told(figures: &Figures, mode: Mode) -> String {
+    let milliseconds = |ms: Option<f64>| ms.map_or("-".to_string(), |ms| format!("{ms:.2} ms"));
+    // a fixed one is known
+    let delay = match mode {
+        Mode::Dynamic(_) => format!(" delay {}", milliseconds(figures.delay_ms)),
+        _ => String::new(),
+    };
     format!(
-        "received {} dropped {} lost {} loss {:.4} jitter {:.2} ms round trip {round_trip} waiting {} missing {} out {}",
+        "received {} dropped {} lost {} loss {:.4} jitter {:.2} ms{delay} round trip {} waiting {} missing {} out {}",
         figures.received,
         figures.dropped,
         figures.lost,
         figures.loss,
         figures.jitter_ms,
+        milliseconds(figures.round_trip_ms),
         figures.waiting,
         figures.missing,
         figures.out

@@ -149,23 +149,44 @@ impl Receiver {
     /// Takes a datagram as it came from the socket, media or repair: repairs are known by payload type and SSRC.
     pub fn take(&mut self, now: Duration, datagram: &[u8]) -> Taken {
         let at = self.instant(now);
-        let taken = match self.push(at, datagram) {
-            Err(refusal @ (Refusal::Clock | Refusal::Count | Refusal::Session)) => {
+        let answer = match self.push(at, datagram) {
+            Err(refusal) if ends_session(refusal) => {
                 self.renew(Why::Refused(refusal));
                 self.push(self.latest - self.start, datagram)
             }
             answer => answer,
         };
-        match taken {
-            Ok(Taken::Dropped) => self.after_dropped(datagram),
-            Ok(taken) => {
-                self.after_taken(taken);
-                taken
+        self.after(datagram, answer)
+    }
+
+    /// Takes datagrams that came together, media and repairs in the order in which they came. Answers, and all that is handed out and told
+    /// later, are those of single calls of [`take`](Receiver::take) at that instant; media packets of the present sender that follow each
+    /// other go into the queue by one [`push_burst`](Queue::push_burst).
+    ///
+    /// ```
+    /// use bizhgemu::{Config, Receiver, Rules, Taken};
+    /// use std::time::Duration;
+    ///
+    /// let mut receiver = Receiver::open(&Config::pcmu(1), Rules::default(), Duration::ZERO)?;
+    /// let datagram = |number: u8| [0x80, 0, 0, number, 0, 0, 0, 0, 0, 0, 0, 1, 0x2a];
+    /// let came = [datagram(7), datagram(8), datagram(7)];
+    /// assert_eq!(receiver.take_burst(Duration::ZERO, &came), [Taken::Queued, Taken::Queued, Taken::Dropped]);
+    /// # Ok::<(), bizhgemu::Refusal>(())
+    /// ```
+    pub fn take_burst(&mut self, now: Duration, datagrams: &[impl AsRef<[u8]>]) -> Vec<Taken> {
+        let mut rest: &[_] = &datagrams.iter().map(AsRef::as_ref).collect::<Vec<&[u8]>>();
+        let mut taken = Vec::with_capacity(rest.len());
+        while let Some(first) = rest.first() {
+            let own = rest.iter().take_while(|datagram| self.is_own_media(datagram)).count();
+            let mut answers = if own > 1 { self.take_together(now, &rest[..own]) } else { Vec::new() };
+            // a repair, a stranger's, one alone, or one that may end the session
+            if answers.is_empty() {
+                answers.push(self.take(now, first));
             }
-            Err(Refusal::Ssrc) => self.after_strange(datagram),
-            Err(refusal @ (Refusal::GapsFull | Refusal::EntriesFull)) => self.hold(refusal, datagram),
-            Err(refusal) => self.refused(refusal),
+            rest = &rest[answers.len()..];
+            taken.extend(answers);
         }
+        taken
     }
 
     /// Hands out the next packet, if one is due. Call it until it hands out nothing.
@@ -381,10 +402,69 @@ impl Receiver {
                 Repair::TooLate => Taken::TooLate,
             });
         }
-        Ok(match self.queue.push(at, datagram)? {
-            Media::Queued => Taken::Queued,
-            Media::Dropped => Taken::Dropped,
-        })
+        self.queue.push(at, datagram).map(Taken::from)
+    }
+
+    /// Media packets of the present sender in one burst, up to the first whose answer may end the session: that one and those after it are
+    /// left to be taken, and to the queue they have not come yet.
+    fn take_together(&mut self, now: Duration, datagrams: &[&[u8]]) -> Vec<Taken> {
+        let at = self.instant(now);
+        let (session, storage) = (self.queue.session, self.queue.storage.clone());
+        let none_waited = self.queue.waiting().len() == 0;
+        let mut answers = self.push_burst(at, datagrams);
+        let going_on = self.before_an_end(&answers);
+        if going_on < answers.len() {
+            (self.queue.session, self.queue.storage) = (session, storage);
+            answers = self.push_burst(at, &datagrams[..going_on]);
+        }
+        if none_waited && self.queue.waiting().len() > 0 {
+            self.progress = self.latest;
+        }
+        datagrams.iter().zip(answers).map(|(datagram, answer)| self.after(datagram, answer.map(Taken::from))).collect()
+    }
+
+    fn push_burst(&mut self, at: Duration, datagrams: &[&[u8]]) -> Vec<Result<Media, Refusal>> {
+        let ends = datagrams.iter().scan(0, |end, datagram| {
+            *end += datagram.len() as u64;
+            Some(*end)
+        });
+        let ends: Vec<u64> = ends.collect();
+        self.queue.push_burst(at, &datagrams.concat(), &ends).expect("the ends ascend to that of the buffer")
+    }
+
+    /// How many answers come before one that may end the session: a refusal that does, or the last sign of a restart.
+    fn before_an_end(&self, answers: &[Result<Media, Refusal>]) -> usize {
+        let most = self.rules.restart.map_or(usize::MAX, |most| most.clamp(1, MOST_KEPT));
+        let mut dropped = self.dropped.len();
+        let goes_on = |answer: &&Result<Media, Refusal>| {
+            dropped = match answer {
+                Ok(Media::Queued) => 0,
+                Ok(Media::Dropped) => dropped + 1,
+                Err(refusal) if ends_session(*refusal) => usize::MAX,
+                Err(_) => dropped,
+            };
+            dropped < most
+        };
+        answers.iter().take_while(goes_on).count()
+    }
+
+    /// What follows from the queue's answer to a datagram.
+    fn after(&mut self, datagram: &[u8], answer: Result<Taken, Refusal>) -> Taken {
+        match answer {
+            Ok(Taken::Dropped) => self.after_dropped(datagram),
+            Ok(taken) => {
+                self.after_taken(taken);
+                taken
+            }
+            Err(Refusal::Ssrc) => self.after_strange(datagram),
+            Err(refusal @ (Refusal::GapsFull | Refusal::EntriesFull)) => self.hold(refusal, datagram),
+            Err(refusal) => self.refused(refusal),
+        }
+    }
+
+    /// Whether it can only be answered as media of the present sender, or as no packet.
+    fn is_own_media(&self, datagram: &[u8]) -> bool {
+        !self.is_repair(datagram) && Header::of(datagram).is_none_or(|header| header.ssrc == self.config.ssrc)
     }
 
     fn is_repair(&self, datagram: &[u8]) -> bool {
@@ -569,11 +649,20 @@ impl Receiver {
         let Some(stall) = self.rules.stall else {
             return;
         };
+        let delay = match self.config.mode {
+            Mode::Dynamic(dynamic) => dynamic.max,
+            _ => self.config.delay,
+        };
         let waited = self.latest.saturating_sub(self.progress);
-        if self.queue.waiting().len() > 0 && waited > self.config.delay + stall {
+        if self.queue.waiting().len() > 0 && waited > delay + stall {
             self.renew(Why::Stall);
         }
     }
+}
+
+/// Whether a session cannot go on after this refusal.
+fn ends_session(refusal: Refusal) -> bool {
+    matches!(refusal, Refusal::Clock | Refusal::Count | Refusal::Session)
 }
 
 /// How many numbers entries name: the first of each, and one for each bit of its mask.

@@ -1,4 +1,4 @@
-use crate::answers::{Figures, Packet};
+use crate::answers::{Figures, Media, Packet};
 use crate::refusal::Refusal;
 use core::time::Duration;
 
@@ -35,8 +35,8 @@ pub struct Rules {
     /// A restart under the same SSRC: so many media packets with ascending numbers dropped, and none queued between them, 1 to 64.
     /// They are kept, and pushed into the new session. None: never. Default: 10.
     pub restart: Option<usize>,
-    /// A restart whose timestamps went back: packets wait, and for [`Config::delay`](crate::Config::delay) and so much longer none
-    /// was handed out. None: never. Default: one second.
+    /// A restart whose timestamps went back: packets wait, and for [`Config::delay`](crate::Config::delay), or the longest that a dynamic
+    /// delay may be, and so much longer none was handed out. None: never. Default: one second.
     pub stall: Option<Duration>,
     /// By how much the clock may go back before that means a new session; until then it stands still. Default: one second.
     pub clock_tolerance: Duration,
@@ -138,6 +138,15 @@ pub enum Taken {
     Strange,
     /// Refused.
     Refused(Refusal),
+}
+
+impl From<Media> for Taken {
+    fn from(media: Media) -> Taken {
+        match media {
+            Media::Queued => Taken::Queued,
+            Media::Dropped => Taken::Dropped,
+        }
+    }
 }
 
 /// A packet that is handed out.
