@@ -52,3 +52,23 @@ fn late_joiner() {
 fn storm() {
     compare("examples/storm.trace", "examples/storm.answers");
 }
+
+#[test]
+fn nacks_on_the_wire() {
+    compare("examples/wire.trace", "examples/wire.answers");
+}
+
+#[test]
+fn a_burst() {
+    compare("examples/burst.trace", "examples/burst.answers");
+}
+
+#[test]
+fn a_dynamic_delay() {
+    compare("examples/dynamic.trace", "examples/dynamic.answers");
+}
+
+#[test]
+fn settings_lines() {
+    compare("examples/settings.trace", "examples/settings.answers");
+}

@@ -1,12 +1,14 @@
 //! A line of a trace to a call.
 
 /// The longest line, its line feed not counted.
-const LONGEST_LINE: usize = 4095;
+const LONGEST_LINE: usize = 65_535;
 
 pub enum Call {
-    /// MODE CLOCK D G DELAY INITIAL RESEND MAX PT SSRC RTX RTXPT RTXSSRC
-    Open([u64; 13]),
+    /// MODE CLOCK D G DELAY INITIAL RESEND MAX PT SSRC RTX RTXPT RTXSSRC, and in mode 2 MIN MAXDELAY T
+    Open([u64; 13], Option<[u64; 3]>),
     Media(u64, Vec<u8>),
+    /// NOW PLACES, the buffer and the ends
+    Burst(u64, u64, Vec<u8>, Vec<u64>),
     Repair(u64, Vec<u8>),
     Poll(u64),
     PollNack(u64),
@@ -19,6 +21,9 @@ pub enum Call {
     RtxStats,
     Highest,
     State,
+    ReadSettings(Vec<u8>),
+    /// PLACES, MODE CLOCK D G DELAY INITIAL RESEND MAX, MIN MAXDELAY T
+    WriteSettings(u64, [u64; 8], [u64; 3]),
 }
 
 /// None where the line is unreadable.
@@ -32,11 +37,16 @@ pub fn read(line: &[u8]) -> Option<Call> {
         None => (line, Vec::new()),
     };
     Some(match (word, rest.as_slice()) {
-        ("open", fields) => {
-            let numbers: Option<Vec<u64>> = fields.iter().map(|field| number(field)).collect();
-            Call::Open(numbers?.try_into().ok()?)
+        ("open", ["2", ..]) => {
+            let (first, dynamic) = rest.split_at_checked(13)?;
+            Call::Open(numbers(first)?, Some(numbers(dynamic)?))
         }
+        ("open", fields) => Call::Open(numbers(fields)?, None),
         ("media", [now, bytes]) => Call::Media(number(now)?, hex(bytes)?),
+        ("burst", [now, places, bytes, ends @ ..]) => {
+            let ends = ends.iter().map(|end| number(end)).collect::<Option<_>>()?;
+            Call::Burst(number(now)?, number(places)?, hex(bytes)?, ends)
+        }
         ("repair", [now, bytes]) => Call::Repair(number(now)?, hex(bytes)?),
         ("poll", [now]) => Call::Poll(number(now)?),
         ("poll_nack", [now]) => Call::PollNack(number(now)?),
@@ -47,6 +57,11 @@ pub fn read(line: &[u8]) -> Option<Call> {
         ("rtx_stats", []) => Call::RtxStats,
         ("highest", []) => Call::Highest,
         ("state", []) => Call::State,
+        ("read_settings", [bytes]) => Call::ReadSettings(hex(bytes)?),
+        ("write_settings", [places, settings @ ..]) => {
+            let (first, dynamic) = settings.split_at_checked(8)?;
+            Call::WriteSettings(number(places)?, numbers(first)?, numbers(dynamic)?)
+        }
         _ => return None,
     })
 }
@@ -56,6 +71,12 @@ fn number(field: &str) -> Option<u64> {
     let digits = field.bytes().all(|byte| byte.is_ascii_digit());
     let leading = field.len() > 1 && field.starts_with('0');
     if digits && !leading { field.parse().ok() } else { None }
+}
+
+/// As many numbers as there are places.
+fn numbers<const N: usize>(fields: &[&str]) -> Option<[u64; N]> {
+    let numbers: Option<Vec<u64>> = fields.iter().map(|field| number(field)).collect();
+    numbers?.try_into().ok()
 }
 
 /// Pairs of lower-case hexadecimal digits, or `-` for no bytes.

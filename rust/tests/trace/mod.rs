@@ -2,7 +2,7 @@
 
 mod line;
 
-use bizhgemu::{Config, Media, Mode, Packet, Queue, Refusal, Repair, Rtx, read_nacks_into};
+use bizhgemu::{Config, Dynamic, Media, Mode, Packet, Queue, Refusal, Repair, Rtx, read_nacks_into};
 use line::Call;
 use std::fmt::Display;
 use std::time::Duration;
@@ -21,7 +21,11 @@ impl Host {
             return vec!["unreadable".into()];
         };
         let answer = match (call, &mut self.0) {
-            (Call::Open(fields), _) => self.open(fields),
+            (Call::Open(fields, dynamic), _) => self.open(fields, dynamic),
+            (Call::ReadSettings(line), _) => read_settings(&line).map(|line| vec![line]),
+            (Call::WriteSettings(places, fields, dynamic), _) => {
+                write_settings(places, fields, dynamic).map(|line| vec![line])
+            }
             (Call::ReadNacks(places, bytes), _) => read_nacks(places, &bytes).map(|line| vec![line]),
             (_, None) => Ok(vec!["no session".into()]),
             (Call::State, Some(queue)) => state(queue),
@@ -30,8 +34,8 @@ impl Host {
         answer.unwrap_or_else(|refusal| vec![format!("refused {}", refusal.number())])
     }
 
-    fn open(&mut self, fields: [u64; 13]) -> Result<Vec<String>, Refusal> {
-        let config = config(fields).ok_or(Refusal::Settings)?;
+    fn open(&mut self, fields: [u64; 13], dynamic: Option<[u64; 3]>) -> Result<Vec<String>, Refusal> {
+        let config = config(fields, dynamic).ok_or(Refusal::Settings)?;
         self.0 = Some(Queue::open(&config)?);
         Ok(vec!["opened".into()])
     }
@@ -39,14 +43,21 @@ impl Host {
 
 /// None where a field does not fit the type it has in `Config`, which is refused under 1 as well (docs/TRACE.md). The payload type
 /// of repairs counts where there are none, too.
-fn config(fields: [u64; 13]) -> Option<Config> {
+fn config(fields: [u64; 13], dynamic: Option<[u64; 3]>) -> Option<Config> {
     let [mode, clock_rate, max_entries, max_gaps, delay, initial, resend, max, ..] = fields;
     let [.., payload_type, ssrc, rtx, rtx_pt, rtx_ssrc] = fields;
     let repairs = Rtx::new(u8::try_from(rtx_pt).ok().filter(|pt| *pt <= 127)?, rtx_ssrc.try_into().ok()?);
     let mut config = Config::default();
-    config.mode = match mode {
-        0 => Mode::Passthrough,
-        1 => Mode::SortedQueue,
+    config.mode = match (mode, dynamic) {
+        (0, None) => Mode::Passthrough,
+        (1, None) => Mode::SortedQueue,
+        (2, Some([min, max, target_recovery])) => {
+            let mut dynamic = Dynamic::default();
+            dynamic.min = Duration::from_nanos(min);
+            dynamic.max = Duration::from_nanos(max);
+            dynamic.target_recovery = target_recovery;
+            Mode::Dynamic(dynamic)
+        }
         _ => return None,
     };
     config.clock_rate = clock_rate.try_into().ok()?;
@@ -74,6 +85,13 @@ fn make(queue: &mut Queue, call: Call) -> Result<String, Refusal> {
             Media::Dropped => "dropped".into(),
             other => format!("{other:?}"),
         },
+        Call::Burst(now, places, buffer, ends) => {
+            // the crate makes the list of answers itself, so that a short one is the host's to refuse, ahead of every other check
+            if places < ends.len() as u64 {
+                return Err(Refusal::Output);
+            }
+            burst(&queue.push_burst(at(now), &buffer, &ends)?)
+        }
         Call::Repair(now, bytes) => match queue.push_rtx(at(now), &bytes)? {
             Repair::Recovered => "recovered".into(),
             Repair::Redundant => "redundant".into(),
@@ -96,7 +114,9 @@ fn make(queue: &mut Queue, call: Call) -> Result<String, Refusal> {
             Some(number) => format!("highest {number}"),
             None => "none".into(),
         },
-        Call::Open(_) | Call::State | Call::ReadNacks(..) => unreachable!("answered by the host"),
+        Call::Open(..) | Call::State | Call::ReadNacks(..) | Call::ReadSettings(_) | Call::WriteSettings(..) => {
+            unreachable!("answered by the host")
+        }
     })
 }
 
@@ -130,6 +150,46 @@ fn listed(word: &str, numbers: &[u16]) -> String {
         return "nothing".into();
     }
     numbers.iter().fold(word.to_string(), |line, number| format!("{line} {number}"))
+}
+
+fn burst(answers: &[Result<Media, Refusal>]) -> String {
+    let numbers = answers.iter().map(|answer| match answer {
+        Ok(Media::Queued) => 0,
+        Ok(_) => 255,
+        Err(refusal) => refusal.number() as u16,
+    });
+    listed("answers", &numbers.collect::<Vec<u16>>())
+}
+
+fn read_settings(line: &[u8]) -> Result<String, Refusal> {
+    let config = Config::from_line(line).map_err(|error| error.refusal)?;
+    let (mode, [min, max, target]) = match config.mode {
+        Mode::Passthrough => (0, [0; 3]),
+        Mode::SortedQueue => (1, [0; 3]),
+        Mode::Dynamic(d) => (2, [d.min.as_nanos() as u64, d.max.as_nanos() as u64, d.target_recovery]),
+        _ => unreachable!("a mode that a trace has no number for"),
+    };
+    Ok(format!(
+        "settings {mode} {} {} {} {} {} {} {} {min} {max} {target}",
+        config.clock_rate,
+        config.max_entries,
+        config.max_gaps,
+        config.delay.as_nanos(),
+        config.initial_nack_delay.as_nanos(),
+        config.default_nack_resend_delay.as_nanos(),
+        config.max_nack_attempts,
+    ))
+}
+
+fn write_settings(places: u64, fields: [u64; 8], dynamic: [u64; 3]) -> Result<String, Refusal> {
+    let mut all = [0; 13];
+    all[..8].copy_from_slice(&fields);
+    let dynamic = (fields[0] == 2 || dynamic != [0; 3]).then_some(dynamic);
+    let line = config(all, dynamic).ok_or(Refusal::Settings)?.to_line()?;
+    if places < line.len() as u64 {
+        return Err(Refusal::Output);
+    }
+    Ok(format!("line {}", hex(&line)))
 }
 
 fn timeout(timeout: Option<Duration>) -> String {
