@@ -105,6 +105,33 @@ def kind(answer):
     return answer[0] if words[0] in ("refused", "too", "no") else words[0]
 
 
+def named(entries):
+    """The numbers that the entries of a generic NACK name (RFC 4585, section 6.2.1)."""
+    for at in range(0, len(entries), 4):
+        first, mask = int.from_bytes(entries[at:at + 2], "big"), int.from_bytes(entries[at + 2:at + 4], "big")
+        yield from [first] + [(first + 1 + bit) % 2**16 for bit in range(16) if mask >> bit & 1]
+
+
+def single(line, answer):
+    """The calls that a call equals (02, points 1 and 4), each with its answer: itself, but for NACKs on the wire and bursts."""
+    words = line.split(" ")
+    if words[0] == "nack_wire" and answer.startswith("wire "):
+        yield f"poll_nack {words[1]}", "nack " + " ".join(map(str, named(bytes.fromhex(answer[5:]))))
+    elif words[0] == "nack_wire" and answer != "unreadable":
+        yield f"poll_nack {words[1]}", answer
+    elif words[0] == "burst" and answer.startswith("answers "):
+        data, ends = bytes.fromhex(words[3].replace("-", "")), [int(end) for end in words[4:]]
+        for start, end, number in zip([0] + ends, ends, answer.split(" ")[1:]):
+            yield f"media {words[1]} {hexed(data[start:end])}", {"0": "queued", "255": "dropped"}.get(number, f"refused {number}")
+    else:
+        yield line, answer
+
+
+def settings_of(line):
+    """The settings of an `open`."""
+    return dict(zip(FIELDS + DYNAMIC_FIELDS, map(int, line.split(" ")[1:])))
+
+
 def split(text):
     """Lines of a trace or of answers; a last line without its line feed is a line all the same."""
     lines = text.split("\n")

@@ -54,21 +54,21 @@ fn storm() {
 }
 
 #[test]
-fn wire() {
+fn nacks_on_the_wire() {
     compare("examples/wire.trace", "examples/wire.answers");
 }
 
 #[test]
-fn burst() {
+fn a_burst() {
     compare("examples/burst.trace", "examples/burst.answers");
 }
 
 #[test]
-fn dynamic() {
+fn a_dynamic_delay() {
     compare("examples/dynamic.trace", "examples/dynamic.answers");
 }
 
 #[test]
-fn settings() {
+fn settings_lines() {
     compare("examples/settings.trace", "examples/settings.answers");
 }

@@ -4,12 +4,10 @@
 const LONGEST_LINE: usize = 65_535;
 
 pub enum Call {
-    /// MODE CLOCK D G DELAY INITIAL RESEND MAX PT SSRC RTX RTXPT RTXSSRC
-    Open([u64; 13]),
-    /// The same in mode 2, and MIN MAXDELAY T
-    OpenDynamic([u64; 13], [u64; 3]),
+    /// MODE CLOCK D G DELAY INITIAL RESEND MAX PT SSRC RTX RTXPT RTXSSRC, and in mode 2 MIN MAXDELAY T
+    Open([u64; 13], Option<[u64; 3]>),
     Media(u64, Vec<u8>),
-    /// NOW PLACES, the buffer, and the ends
+    /// NOW PLACES, the buffer and the ends
     Burst(u64, u64, Vec<u8>, Vec<u64>),
     Repair(u64, Vec<u8>),
     Poll(u64),
@@ -24,8 +22,8 @@ pub enum Call {
     Highest,
     State,
     ReadSettings(Vec<u8>),
-    /// PLACES, and MODE CLOCK D G DELAY INITIAL RESEND MAX MIN MAXDELAY T
-    WriteSettings(u64, [u64; 11]),
+    /// PLACES, MODE CLOCK D G DELAY INITIAL RESEND MAX, MIN MAXDELAY T
+    WriteSettings(u64, [u64; 8], [u64; 3]),
 }
 
 /// None where the line is unreadable.
@@ -39,14 +37,15 @@ pub fn read(line: &[u8]) -> Option<Call> {
         None => (line, Vec::new()),
     };
     Some(match (word, rest.as_slice()) {
-        ("open", ["2", fields @ .., min, max, target]) => {
-            let fields = numbers(fields)?.try_into().ok()?;
-            Call::OpenDynamic(with_first(2, fields), [number(min)?, number(max)?, number(target)?])
+        ("open", ["2", ..]) => {
+            let (first, dynamic) = rest.split_at_checked(13)?;
+            Call::Open(numbers(first)?, Some(numbers(dynamic)?))
         }
-        ("open", fields) => Call::Open(numbers(fields)?.try_into().ok()?),
+        ("open", fields) => Call::Open(numbers(fields)?, None),
         ("media", [now, bytes]) => Call::Media(number(now)?, hex(bytes)?),
         ("burst", [now, places, bytes, ends @ ..]) => {
-            Call::Burst(number(now)?, number(places)?, hex(bytes)?, numbers(ends)?)
+            let ends = ends.iter().map(|end| number(end)).collect::<Option<_>>()?;
+            Call::Burst(number(now)?, number(places)?, hex(bytes)?, ends)
         }
         ("repair", [now, bytes]) => Call::Repair(number(now)?, hex(bytes)?),
         ("poll", [now]) => Call::Poll(number(now)?),
@@ -59,21 +58,12 @@ pub fn read(line: &[u8]) -> Option<Call> {
         ("highest", []) => Call::Highest,
         ("state", []) => Call::State,
         ("read_settings", [bytes]) => Call::ReadSettings(hex(bytes)?),
-        ("write_settings", [places, fields @ ..]) => {
-            Call::WriteSettings(number(places)?, numbers(fields)?.try_into().ok()?)
+        ("write_settings", [places, settings @ ..]) => {
+            let (first, dynamic) = settings.split_at_checked(8)?;
+            Call::WriteSettings(number(places)?, numbers(first)?, numbers(dynamic)?)
         }
         _ => return None,
     })
-}
-
-fn numbers(fields: &[&str]) -> Option<Vec<u64>> {
-    fields.iter().map(|field| number(field)).collect()
-}
-
-fn with_first(first: u64, rest: [u64; 12]) -> [u64; 13] {
-    let mut all = [first; 13];
-    all[1..].copy_from_slice(&rest);
-    all
 }
 
 /// Decimal digits alone, no leading zero, at most 2^64 - 1.
@@ -81,6 +71,12 @@ fn number(field: &str) -> Option<u64> {
     let digits = field.bytes().all(|byte| byte.is_ascii_digit());
     let leading = field.len() > 1 && field.starts_with('0');
     if digits && !leading { field.parse().ok() } else { None }
+}
+
+/// As many numbers as there are places.
+fn numbers<const N: usize>(fields: &[&str]) -> Option<[u64; N]> {
+    let numbers: Option<Vec<u64>> = fields.iter().map(|field| number(field)).collect();
+    numbers?.try_into().ok()
 }
 
 /// Pairs of lower-case hexadecimal digits, or `-` for no bytes.

@@ -2,7 +2,7 @@
 
 mod line;
 
-use bizhgemu::{Config, Dynamic, LINE_BYTES, Media, Mode, Packet, Queue, Refusal, Repair, Rtx, read_nacks_into};
+use bizhgemu::{Config, Dynamic, Media, Mode, Packet, Queue, Refusal, Repair, Rtx, read_nacks_into};
 use line::Call;
 use std::fmt::Display;
 use std::time::Duration;
@@ -21,10 +21,11 @@ impl Host {
             return vec!["unreadable".into()];
         };
         let answer = match (call, &mut self.0) {
-            (Call::Open(fields), _) => self.open(fields, [0; 3]),
-            (Call::OpenDynamic(fields, dynamic), _) => self.open(fields, dynamic),
-            (Call::ReadSettings(bytes), _) => read_settings(&bytes).map(|line| vec![line]),
-            (Call::WriteSettings(places, fields), _) => write_settings(places, fields).map(|line| vec![line]),
+            (Call::Open(fields, dynamic), _) => self.open(fields, dynamic),
+            (Call::ReadSettings(line), _) => read_settings(&line).map(|line| vec![line]),
+            (Call::WriteSettings(places, fields, dynamic), _) => {
+                write_settings(places, fields, dynamic).map(|line| vec![line])
+            }
             (Call::ReadNacks(places, bytes), _) => read_nacks(places, &bytes).map(|line| vec![line]),
             (_, None) => Ok(vec!["no session".into()]),
             (Call::State, Some(queue)) => state(queue),
@@ -33,7 +34,7 @@ impl Host {
         answer.unwrap_or_else(|refusal| vec![format!("refused {}", refusal.number())])
     }
 
-    fn open(&mut self, fields: [u64; 13], dynamic: [u64; 3]) -> Result<Vec<String>, Refusal> {
+    fn open(&mut self, fields: [u64; 13], dynamic: Option<[u64; 3]>) -> Result<Vec<String>, Refusal> {
         let config = config(fields, dynamic).ok_or(Refusal::Settings)?;
         self.0 = Some(Queue::open(&config)?);
         Ok(vec!["opened".into()])
@@ -42,13 +43,30 @@ impl Host {
 
 /// None where a field does not fit the type it has in `Config`, which is refused under 1 as well (docs/TRACE.md). The payload type
 /// of repairs counts where there are none, too.
-fn config(fields: [u64; 13], dynamic: [u64; 3]) -> Option<Config> {
+fn config(fields: [u64; 13], dynamic: Option<[u64; 3]>) -> Option<Config> {
     let [mode, clock_rate, max_entries, max_gaps, delay, initial, resend, max, ..] = fields;
     let [.., payload_type, ssrc, rtx, rtx_pt, rtx_ssrc] = fields;
-    let [min, longest, target] = dynamic;
     let repairs = Rtx::new(u8::try_from(rtx_pt).ok().filter(|pt| *pt <= 127)?, rtx_ssrc.try_into().ok()?);
-    let kept = [mode, clock_rate, max_entries, max_gaps, delay, initial, resend, max, min, longest, target];
-    let mut config = settings(kept)?;
+    let mut config = Config::default();
+    config.mode = match (mode, dynamic) {
+        (0, None) => Mode::Passthrough,
+        (1, None) => Mode::SortedQueue,
+        (2, Some([min, max, target_recovery])) => {
+            let mut dynamic = Dynamic::default();
+            dynamic.min = Duration::from_nanos(min);
+            dynamic.max = Duration::from_nanos(max);
+            dynamic.target_recovery = target_recovery;
+            Mode::Dynamic(dynamic)
+        }
+        _ => return None,
+    };
+    config.clock_rate = clock_rate.try_into().ok()?;
+    config.delay = Duration::from_nanos(delay);
+    config.max_entries = max_entries.try_into().ok()?;
+    config.max_gaps = max_gaps.try_into().ok()?;
+    config.initial_nack_delay = Duration::from_nanos(initial);
+    config.default_nack_resend_delay = Duration::from_nanos(resend);
+    config.max_nack_attempts = max.try_into().ok()?;
     config.payload_type = payload_type.try_into().ok()?;
     config.ssrc = ssrc.try_into().ok()?;
     config.rtx = match rtx {
@@ -59,64 +77,6 @@ fn config(fields: [u64; 13], dynamic: [u64; 3]) -> Option<Config> {
     Some(config)
 }
 
-/// Those of the settings that a line keeps; none where one does not fit its type, or has no place in its mode.
-fn settings(fields: [u64; 11]) -> Option<Config> {
-    let [mode, clock_rate, max_entries, max_gaps, delay, initial, resend, max, min, longest, target] = fields;
-    let mut config = Config::default();
-    let mut dynamic = Dynamic::default();
-    (dynamic.min, dynamic.max) = (Duration::from_nanos(min), Duration::from_nanos(longest));
-    dynamic.target_recovery = target;
-    config.mode = match (mode, [min, longest, target]) {
-        (0, [0, 0, 0]) => Mode::Passthrough,
-        (1, [0, 0, 0]) => Mode::SortedQueue,
-        (2, _) => Mode::Dynamic(dynamic),
-        _ => return None,
-    };
-    config.clock_rate = clock_rate.try_into().ok()?;
-    config.delay = Duration::from_nanos(delay);
-    config.max_entries = max_entries.try_into().ok()?;
-    config.max_gaps = max_gaps.try_into().ok()?;
-    config.initial_nack_delay = Duration::from_nanos(initial);
-    config.default_nack_resend_delay = Duration::from_nanos(resend);
-    config.max_nack_attempts = max.try_into().ok()?;
-    Some(config)
-}
-
-fn read_settings(line: &[u8]) -> Result<String, Refusal> {
-    let config = Config::from_line(line).map_err(|error| error.refusal)?;
-    let (mode, dynamic) = match config.mode {
-        Mode::Passthrough => (0, [0; 3]),
-        Mode::SortedQueue => (1, [0; 3]),
-        Mode::Dynamic(dynamic) => (2, [dynamic.min.as_nanos(), dynamic.max.as_nanos(), dynamic.target_recovery.into()]),
-        other => unreachable!("{other:?}"),
-    };
-    let sizes = [config.clock_rate as u128, config.max_entries as u128, config.max_gaps as u128];
-    let durations =
-        [config.delay, config.initial_nack_delay, config.default_nack_resend_delay].map(|duration| duration.as_nanos());
-    let fields = [&[mode], &sizes[..], &durations, &[config.max_nack_attempts.into()], &dynamic].concat();
-    Ok(fields.iter().fold("settings".to_string(), |line, field| format!("{line} {field}")))
-}
-
-fn write_settings(places: u64, fields: [u64; 11]) -> Result<String, Refusal> {
-    let line = settings(fields).ok_or(Refusal::Settings)?.to_line()?;
-    // the crate lends a whole one
-    if places < LINE_BYTES as u64 { Err(Refusal::Output) } else { Ok(format!("line {}", hex(&line))) }
-}
-
-fn burst(queue: &mut Queue, now: Duration, places: u64, buffer: &[u8], ends: &[u64]) -> Result<String, Refusal> {
-    // the crate lends a place to each
-    if places < ends.len() as u64 {
-        return Err(Refusal::Output);
-    }
-    let answers = queue.push_burst(now, buffer, ends)?.into_iter().map(|answer| match answer {
-        Ok(Media::Queued) => 0,
-        Ok(_) => 255,
-        Err(refusal) => refusal.number(),
-    });
-    let line = answers.fold("answers".to_string(), |line, answer| format!("{line} {answer}"));
-    Ok(if ends.is_empty() { "nothing".into() } else { line })
-}
-
 fn make(queue: &mut Queue, call: Call) -> Result<String, Refusal> {
     let at = Duration::from_nanos;
     Ok(match call {
@@ -125,7 +85,13 @@ fn make(queue: &mut Queue, call: Call) -> Result<String, Refusal> {
             Media::Dropped => "dropped".into(),
             other => format!("{other:?}"),
         },
-        Call::Burst(now, places, bytes, ends) => burst(queue, at(now), places, &bytes, &ends)?,
+        Call::Burst(now, places, buffer, ends) => {
+            // the crate makes the list of answers itself, so that a short one is the host's to refuse, ahead of every other check
+            if places < ends.len() as u64 {
+                return Err(Refusal::Output);
+            }
+            burst(&queue.push_burst(at(now), &buffer, &ends)?)
+        }
         Call::Repair(now, bytes) => match queue.push_rtx(at(now), &bytes)? {
             Repair::Recovered => "recovered".into(),
             Repair::Redundant => "redundant".into(),
@@ -148,8 +114,9 @@ fn make(queue: &mut Queue, call: Call) -> Result<String, Refusal> {
             Some(number) => format!("highest {number}"),
             None => "none".into(),
         },
-        Call::Open(_) | Call::OpenDynamic(..) | Call::State => unreachable!("answered by the host"),
-        Call::ReadNacks(..) | Call::ReadSettings(_) | Call::WriteSettings(..) => unreachable!("answered by the host"),
+        Call::Open(..) | Call::State | Call::ReadNacks(..) | Call::ReadSettings(_) | Call::WriteSettings(..) => {
+            unreachable!("answered by the host")
+        }
     })
 }
 
@@ -183,6 +150,46 @@ fn listed(word: &str, numbers: &[u16]) -> String {
         return "nothing".into();
     }
     numbers.iter().fold(word.to_string(), |line, number| format!("{line} {number}"))
+}
+
+fn burst(answers: &[Result<Media, Refusal>]) -> String {
+    let numbers = answers.iter().map(|answer| match answer {
+        Ok(Media::Queued) => 0,
+        Ok(_) => 255,
+        Err(refusal) => refusal.number() as u16,
+    });
+    listed("answers", &numbers.collect::<Vec<u16>>())
+}
+
+fn read_settings(line: &[u8]) -> Result<String, Refusal> {
+    let config = Config::from_line(line).map_err(|error| error.refusal)?;
+    let (mode, [min, max, target]) = match config.mode {
+        Mode::Passthrough => (0, [0; 3]),
+        Mode::SortedQueue => (1, [0; 3]),
+        Mode::Dynamic(d) => (2, [d.min.as_nanos() as u64, d.max.as_nanos() as u64, d.target_recovery]),
+        _ => unreachable!("a mode that a trace has no number for"),
+    };
+    Ok(format!(
+        "settings {mode} {} {} {} {} {} {} {} {min} {max} {target}",
+        config.clock_rate,
+        config.max_entries,
+        config.max_gaps,
+        config.delay.as_nanos(),
+        config.initial_nack_delay.as_nanos(),
+        config.default_nack_resend_delay.as_nanos(),
+        config.max_nack_attempts,
+    ))
+}
+
+fn write_settings(places: u64, fields: [u64; 8], dynamic: [u64; 3]) -> Result<String, Refusal> {
+    let mut all = [0; 13];
+    all[..8].copy_from_slice(&fields);
+    let dynamic = (fields[0] == 2 || dynamic != [0; 3]).then_some(dynamic);
+    let line = config(all, dynamic).ok_or(Refusal::Settings)?.to_line()?;
+    if places < line.len() as u64 {
+        return Err(Refusal::Output);
+    }
+    Ok(format!("line {}", hex(&line)))
 }
 
 fn timeout(timeout: Option<Duration>) -> String {
