@@ -88,8 +88,8 @@ pub(crate) use lend;
 /// The receive queue of one RTP stream. It owns its session and storage; it allocates when it is opened or cloned.
 ///
 /// Instants are durations since a start that you choose, not over 52 days back, from one [`Clock`](crate::Clock). `push`,
-/// `push_rtx`, `poll`, `poll_nack` and `nack_wire` advance the queue's clock where they are accepted; an instant before it is refused under
-/// 8, and so is one above [`LATEST`](crate::LATEST). The timeouts don't advance it.
+/// `push_rtx`, `poll`, `poll_nack` and `nack_wire` advance the queue's clock where they are accepted, `push_burst` where one of its datagrams
+/// is; an instant before it is refused under 8, and so is one above [`LATEST`](crate::LATEST). The timeouts don't advance it.
 ///
 /// The refusals under "Errors" stand in the order in which they are checked; [`Refusal::Truncated`] is checked a second time, for
 /// CSRCs and extension, after [`Refusal::Version`]. Every call that may refuse looks through session and storage first,
