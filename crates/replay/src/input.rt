@@ -82,7 +82,7 @@ fn begun(had: Input) -> usize {
 }
 
 impl Input {
-    pub fn start() -> Self {
+    pub(crate) fn start() -> Self {
         Input {
             from: 0,
             size: 0,
@@ -93,12 +93,12 @@ impl Input {
     }
 
     // Whether the next turn waits for input.
-    pub fn waits(self) -> bool {
+    pub(crate) fn waits(self) -> bool {
         self.size <= self.from
     }
 
     // One turn: to the end of the line, or as far as the block goes.
-    pub fn next(self, block: &mut [u8], line: &mut [u8]) -> Self {
+    pub(crate) fn next(self, block: &mut [u8], line: &mut [u8]) -> Self {
         let from = self.from;
         let size = self.size;
         let n = begun(self);

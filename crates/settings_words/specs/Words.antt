@@ -1,6 +1,6 @@
 -- The settings of a line as plain numbers: what they stand for and how they are written, and the line's reader and writer on them.
 use mathlib.Core.Path.{_≡_}
-use mathlib.Core.Bool.{Bool, cond, _&&_, _||_}
+use mathlib.Core.Bool.{Bool, true, cond, _&&_, _||_}
 use mathlib.Core.List.{List}
 use Prim.Native.Nat.{ℕ}
 use lib.Dec.{eqb, ltb}
@@ -86,6 +86,7 @@ modeFits w = eqb (w .mode) 2 || (ltb (w .mode) 2 && (eqb (w .«min_delay») 0 &&
 unfoldable pub writeWords : SettingsWords → List ℕ → Outcome
 writeWords w out = cond (modeFits w) (inWords (writeLine (settingsOf w) out)) (outcome (record { refusal = SETTINGS; bytes = 0 }) out)
 
--- What the reader gives, the writer takes for the same settings.
-abbrev pub Kept : Type 0
-Kept = (s : Settings) → settingsOf (wordsOf s) ≡ s
+-- What the reader gives, the writer takes, and for the same settings.
+pub record Kept : Type 0 where
+  pub taken : (s : Settings) → modeFits (wordsOf s) ≡ true
+  pub same : (s : Settings) → settingsOf (wordsOf s) ≡ s
