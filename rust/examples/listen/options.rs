@@ -252,6 +252,9 @@ fn number<T: TryFrom<u64>>(value: &str) -> Option<T> {
 
 /// Ten thousandths of a share below 1, which has up to four digits after its point.
 fn share(value: &str) -> Option<u64> {
+    if value == "0" {
+        return Some(0);
+    }
     let digits = value.strip_prefix("0.").filter(|digits| (1..=4).contains(&digits.len()))?;
     digits.bytes().all(|digit| digit.is_ascii_digit()).then(|| format!("{digits:0<4}").parse().ok())?
 }
