@@ -5,6 +5,7 @@
 
 extern crate box_std as std;
 
+mod attempts;
 mod datagram;
 #[allow(dead_code, unused_imports)]
 mod rtp;

@@ -8,7 +8,7 @@
  * Look at `refusal` first. A refused call (`refusal` not 0) changes nothing: the session comes back as it was given, word
  * for word (a refused opening gives a session of zeros), and no array is written to. Its answer means nothing: every word of
  * it is 0, also where 0 is BIZHGEMU_QUEUED or BIZHGEMU_RECOVERED, or says that there is no packet or no timeout. After an
- * accepted call every unused place of the storage holds zeros.
+ * accepted call every unused place of the storage holds zeros (after a burst, where it accepted a datagram).
  *
  * The caller owes what C cannot check:
  *  - Each pointer is aligned as its type asks, is not NULL, and names live memory of as many ELEMENTS as the length beside it

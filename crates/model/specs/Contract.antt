@@ -1,4 +1,4 @@
--- The equations that are the contracts of the opening and of the eight calls; `Made` (crate `book`) takes the same ones.
+-- The equations that are the contracts of the opening and of the calls; `Made` (crate `book`) takes the same ones.
 use mathlib.Core.Path.{_≡_}
 use mathlib.Core.List.{List}
 use Prim.Native.Nat.{ℕ}

@@ -1,4 +1,4 @@
--- What a call on stored bytes does, refused or not: the definition that the contracts of the opening and of the eight calls equate
+-- What a call on stored bytes does, refused or not: the definition that the contracts of the opening and of the calls equate
 -- answer, session and lent bytes with.
 use mathlib.Core.Bool.{cond}
 use mathlib.Core.List.{List}
