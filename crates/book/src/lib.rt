@@ -1,4 +1,6 @@
 // The theorems that belong to no call stand as the contracts of functions, so that the check asks for each proof and names it.
+#![tactic(auto)]
+
 ghost use Rattle.book.specs.Claim.{EveryListOfCalls};
 ghost use Rattle.book.specs.Code.{EveryRun};
 ghost use Rattle.book.specs.First.{FirstCycle};

@@ -1,6 +1,8 @@
 // 02, point 4: a burst handed over together. One call takes the datagrams of a buffer, told apart by their ends, as single media calls at one
 // instant. Check 16 is made once, and the unused places are cleared once, before the first datagram that is accepted: what an accepted call
 // leaves, check 16 passes (`StaysSound`, crate `model`).
+#![tactic(auto)]
+
 ghost use Rattle.std.specs.Prelude.{◌≡◌, true, [], ◌≤◌, ◌<◌, length, take};
 ghost use Rattle.words.specs.Words.{over};
 ghost use Rattle.model.specs.Lists.{some?};
@@ -19,7 +21,7 @@ use push::MediaAnswer;
 // The answer number of a packet that is dropped.
 const DROPPED: u8 = 255;
 
-#[derive(Drop)]
+#[derive(Clone, Copy)]
 pub struct PushedBurst {
     // 15, or 0.
     pub refusal: u64,
@@ -29,7 +31,7 @@ pub struct PushedBurst {
 }
 
 // How a session stands between two datagrams: check 16 catches it, or passes it, or zeros stand in its unused places too.
-#[derive(Drop)]
+#[derive(Clone, Copy)]
 enum Standing {
     Damaged,
     Sound,
@@ -37,14 +39,14 @@ enum Standing {
 }
 
 // A session, and how it stands.
-#[derive(Drop)]
+#[derive(Clone, Copy)]
 struct Held {
     session: Session,
     standing: Standing,
 }
 
 // What a datagram was answered, and the session after it.
-#[derive(Drop)]
+#[derive(Clone, Copy)]
 struct Stepped {
     answer: MediaAnswer,
     held: Held,

@@ -1,4 +1,6 @@
 // The checks of 01's table that look at the session alone, a function for each row; 0 means that the call is not turned back.
+#![tactic(auto)]
+
 ghost use Rattle.std.specs.Prelude.{◌≡◌};
 ghost use Rattle.rtp.specs.Opt as Opt;
 ghost use Rattle.model.specs.Records as Records;

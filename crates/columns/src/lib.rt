@@ -1,5 +1,7 @@
 // Numbers in decimal, right-justified after blanks in a field (requests 10 and 13): a field is the whole of a lent part, so that its width
 // is the part's length, and no function here is for one width.
+#![tactic(auto)]
+
 ghost use Rattle.std.specs.Prelude.{◌≡◌, List, ℕ, ◌+◌, ◌%◌, ◌≤◌, length, drop};
 ghost use Rattle.words.specs.Words.{written};
 ghost use Rattle.columns.specs.Columns.{justified, with_digit, digits_of, number_of, after_blanks, field_number, Inverse};

@@ -1,4 +1,6 @@
 // Settings (003) of a session, flat: the opening checks every field, whether the mode uses it or not (01, refusal 1).
+#![tactic(auto)]
+
 ghost use Rattle.std.specs.Prelude.{◌≡◌, T};
 ghost use Rattle.packet_loss.specs.Loss.{loss_in_range};
 ghost use Rattle.rtx_state.specs.RoundTrip.{opt_rtt_in_range};
@@ -42,7 +44,7 @@ const MAX_TARGET_RECOVERY: u64 = 9999;
 // Seven bits (RFC 3550, 5.1).
 const MAX_PAYLOAD_TYPE: u8 = 127;
 
-#[derive(Drop)]
+#[derive(Clone, Copy)]
 pub enum RtpInboundQueueMode {
     // Packets are handed out at once.
     Passthrough,
@@ -50,7 +52,7 @@ pub enum RtpInboundQueueMode {
     SortedQueue(RtpInboundStreamSortedQueueMode),
 }
 
-#[derive(Drop)]
+#[derive(Clone, Copy)]
 pub enum RtpInboundStreamSortedQueueMode {
     // For the delay of the settings.
     Fixed,
@@ -59,7 +61,7 @@ pub enum RtpInboundStreamSortedQueueMode {
 }
 
 // Durations are nanoseconds.
-#[derive(Drop)]
+#[derive(Clone, Copy)]
 pub struct RtpInboundStreamDynamicConfig {
     pub min: u64,
     pub max: u64,
@@ -68,7 +70,7 @@ pub struct RtpInboundStreamDynamicConfig {
 }
 
 // Durations are nanoseconds.
-#[derive(Drop)]
+#[derive(Clone, Copy)]
 pub struct Settings {
     pub mode: RtpInboundQueueMode,
     pub clock_rate: u32,
@@ -86,7 +88,7 @@ pub struct Settings {
 }
 
 // Whose packets the session takes.
-#[derive(Drop)]
+#[derive(Clone, Copy)]
 pub struct Senders {
     pub pt: u8,
     pub ssrc: Ssrc,
@@ -95,7 +97,7 @@ pub struct Senders {
     pub rtx_ssrc: Ssrc,
 }
 
-#[derive(Drop)]
+#[derive(Clone, Copy)]
 pub struct NackTimings {
     pub initial: u64,
     pub resend: u64,

@@ -2,6 +2,8 @@
 //
 // A line is M for a media packet or R for a repair, and then, as hexadecimal digits, the payload type (a byte) and the SSRC (four)
 // that the session expects, and the datagram. What is no digit is passed over. A line that begins with # is written as it came.
+#![tactic(auto)]
+
 ghost use Rattle.std.specs.Prelude.{◌≤◌};
 
 use rtp::Ssrc;
@@ -136,7 +138,7 @@ fn digit(c: u8) -> u8 {
 }
 
 // Bytes decoded so far, and the high digit of the next, or 16.
-#[derive(Drop)]
+#[derive(Clone, Copy)]
 struct Decoded {
     count: usize,
     high: u8,
@@ -205,7 +207,7 @@ fn feed(chunk: &[u8], line: &mut [u8], had: usize) -> usize {
     n
 }
 
-#[derive(Drop)]
+#[derive(Clone, Copy)]
 struct Turn {
     n: usize,
     more: bool,

@@ -1,5 +1,7 @@
 // 000's queue of entries, ascending by number, in counted places of two lent slices: four words for each entry, and 320 bytes for its
 // payload. The session keeps their count n. Where a function wants `EntriesIn`, `check::tidy` made it so.
+#![tactic(auto)]
+
 ghost use Rattle.std.specs.Prelude.{◌≡◌, true, List, [], ◌∷◌, ℕ, ◌+◌, ◌*◌, ◌^◌, ◌≤◌, ◌<◌, length, take, drop};
 ghost use Rattle.words.specs.Words.{over, padded};
 ghost use Rattle.words.specs.Blocks.{laid};
@@ -22,7 +24,7 @@ pub const ENTRY_WORDS: usize = 4;
 pub const PAYLOAD_BYTES: usize = rtp_packet::LARGEST_PAYLOAD;
 
 // An entry without its payload.
-#[derive(Drop)]
+#[derive(Clone, Copy)]
 pub struct Entry {
     // None for a repair.
     pub arrival: Opt,

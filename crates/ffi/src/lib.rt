@@ -1,6 +1,8 @@
 // The library for C and Rust: the opening, the calls, the burst, two readings, the reader of NACK entries and the version, on words that the caller
 // keeps and storage that it lends; in settings.rt the line of settings.
 // No function asks anything of its caller but live slices of the lengths passed, none of which overlaps another that is written.
+#![tactic(auto)]
+
 ghost use Rattle.std.specs.Prelude.{◌≡◌, []};
 ghost use Rattle.model.specs.Calls as Calls;
 ghost use Rattle.model.specs.Contract.{lent, left};

@@ -20,7 +20,7 @@ use queue::Opening;
 use rtp::opt::Opt;
 
 #[repr(C)]
-#[derive(Drop)]
+#[derive(Clone, Copy)]
 pub struct Opened {
     pub refusal: u64,
     pub session: SessionWords,
@@ -28,7 +28,7 @@ pub struct Opened {
 
 // Of media: 0 queued, 1 dropped. Of a repair: 0 recovered, 1 redundant, 2 too late.
 #[repr(C)]
-#[derive(Drop)]
+#[derive(Clone, Copy)]
 pub struct Pushed {
     pub refusal: u64,
     pub answer: u64,
@@ -37,7 +37,7 @@ pub struct Pushed {
 
 // 02, point 4: how many answer numbers stand in the list, one for each datagram.
 #[repr(C)]
-#[derive(Drop)]
+#[derive(Clone, Copy)]
 pub struct PushedBurst {
     pub refusal: u64,
     pub answers: usize,
@@ -46,7 +46,7 @@ pub struct PushedBurst {
 
 // `size` bytes of the output are the payload; a repair has no `received_at`.
 #[repr(C)]
-#[derive(Drop)]
+#[derive(Clone, Copy)]
 pub struct Packet {
     pub has_received_at: u64,
     pub received_at: u64,
@@ -60,7 +60,7 @@ pub struct Packet {
 }
 
 #[repr(C)]
-#[derive(Drop)]
+#[derive(Clone, Copy)]
 pub struct Polled {
     pub refusal: u64,
     pub has_packet: u64,
@@ -70,7 +70,7 @@ pub struct Polled {
 
 // How many numbers stand in the output: 0 where none is due.
 #[repr(C)]
-#[derive(Drop)]
+#[derive(Clone, Copy)]
 pub struct PolledNack {
     pub refusal: u64,
     pub count: usize,
@@ -79,7 +79,7 @@ pub struct PolledNack {
 
 // How many bytes of the output are entries of a generic NACK: 0 where nothing is due.
 #[repr(C)]
-#[derive(Drop)]
+#[derive(Clone, Copy)]
 pub struct PolledWire {
     pub refusal: u64,
     pub bytes: usize,
@@ -87,7 +87,7 @@ pub struct PolledWire {
 }
 
 // A number that may be missing, as a flag and a value.
-#[derive(Drop)]
+#[derive(Clone, Copy)]
 pub struct OptWords {
     pub has: u64,
     pub value: u64,

@@ -11,7 +11,7 @@ use stats::OptRtxStats;
 
 // Nanoseconds.
 #[repr(C)]
-#[derive(Drop)]
+#[derive(Clone, Copy)]
 pub struct Timeout {
     pub refusal: u64,
     pub has_timeout: u64,
@@ -19,7 +19,7 @@ pub struct Timeout {
 }
 
 #[repr(C)]
-#[derive(Drop)]
+#[derive(Clone, Copy)]
 pub struct RtxStats {
     pub refusal: u64,
     pub has_stats: u64,
@@ -32,7 +32,7 @@ pub struct RtxStats {
 }
 
 #[repr(C)]
-#[derive(Drop)]
+#[derive(Clone, Copy)]
 pub struct Highest {
     pub refusal: u64,
     pub has_number: u64,
@@ -41,7 +41,7 @@ pub struct Highest {
 
 // The inbound stream: 000's counters as they stand, the jitter in nanoseconds.
 #[repr(C)]
-#[derive(Drop)]
+#[derive(Clone, Copy)]
 pub struct Figures {
     pub refusal: u64,
     pub packets_received: u64,
@@ -54,7 +54,7 @@ pub struct Figures {
 
 // How many numbers the entries of a generic NACK name.
 #[repr(C)]
-#[derive(Drop)]
+#[derive(Clone, Copy)]
 pub struct ReadNumbers {
     pub refusal: u64,
     pub numbers: usize,
@@ -62,7 +62,7 @@ pub struct ReadNumbers {
 
 // Elements of the lent slices.
 #[repr(C)]
-#[derive(Drop)]
+#[derive(Clone, Copy)]
 pub struct Lengths {
     pub refusal: u64,
     pub entries: usize,

@@ -1,6 +1,8 @@
 // The session and its settings as they cross the boundary: plain numbers, no bool, no enum and no float. A flag is a word, 0 or 1. Where the
 // flag of a record is 0, its values are not looked at, and are 0 in what comes back; settings beside `has_rtx` stay as they are. A float is its
 // bits: a NaN has many, which a refused call gives back as they came.
+#![tactic(auto)]
+
 ghost use Rattle.std.specs.Prelude.{◌≡◌};
 ghost use Rattle.ffi_words.specs.Words as Words;
 ghost use Rattle.ffi_words.specs.Words.{Kept};
@@ -21,7 +23,7 @@ pub mod writing;
 // `mode` is 0 for Passthrough, 1 for SortedQueue with a Fixed delay, 2 with a Dynamic one. `min_delay`, `max_delay` and `target_recovery` are
 // those of mode 2: in another they are not looked at, and are 0 in what comes back.
 #[repr(C)]
-#[derive(Drop)]
+#[derive(Clone, Copy)]
 pub struct ConfigWords {
     pub delay: u64,
     pub initial_nack_delay: u64,
@@ -42,7 +44,7 @@ pub struct ConfigWords {
 }
 
 #[repr(C)]
-#[derive(Drop)]
+#[derive(Clone, Copy)]
 pub struct SessionWords {
     pub config: ConfigWords,
     pub clock: u64,
@@ -72,7 +74,7 @@ pub struct SessionWords {
 }
 
 // A record that may be missing, as a flag and its values.
-#[derive(Drop)]
+#[derive(Clone, Copy)]
 pub struct LastWords {
     pub has: u64,
     pub instant: u64,
@@ -80,13 +82,13 @@ pub struct LastWords {
     pub number: u64,
 }
 
-#[derive(Drop)]
+#[derive(Clone, Copy)]
 pub struct ReturnedWords {
     pub has: u64,
     pub number: u64,
 }
 
-#[derive(Drop)]
+#[derive(Clone, Copy)]
 pub struct RttWords {
     pub has: u64,
     pub srtt: u64,

@@ -15,6 +15,8 @@
 //   x  RtxState, stats      in time, too late, redundant, bytes, payload size, sample
 //   m  max_timestamp        last instant, last timestamp, clock rate, delay, now
 //   t  timeout_receive      last instant, last timestamp, earliest timestamp, clock rate, delay, now
+#![tactic(auto)]
+
 mod answers;
 mod line;
 

@@ -1,4 +1,6 @@
 // Hand-out of a sorted queue (000): up to which timestamp packets are handed out, and when the next is due.
+#![tactic(auto)]
+
 ghost use Rattle.std.specs.Prelude.{◌≡◌, ◌≤◌, ◌<◌, ◌^◌, pos, ◌+ℤ◌};
 ghost use Rattle.std.specs.Int.Signed.{mag};
 ghost use Rattle.std.specs.Float.Ieee.{to_signed};

@@ -1,5 +1,7 @@
 // 002's `lost_nacked_packets`: the numbers that were given up after just one NACK, with its instant, oldest first, in counted places of a
 // lent slice. The session keeps their count n. Where a function wants `RememberedIn`, `tidy` made it so.
+#![tactic(auto)]
+
 ghost use Rattle.std.specs.Prelude.{◌≡◌, true, ◌++◌, map, ◌+◌, ◌*◌, ◌-◌, ◌≤◌, min, length, take, drop};
 ghost use Rattle.words.specs.Blocks.{laid};
 ghost use Rattle.words.specs.Words.{written};
@@ -20,7 +22,7 @@ pub const MAX_LOST_NACKED: usize = 1024;
 // Words of a remembered number's place.
 pub const REMEMBERED_WORDS: usize = 2;
 
-#[derive(Drop)]
+#[derive(Clone, Copy)]
 pub struct Remembered {
     pub number: ExtendedSequenceNumber,
     pub nacked_at: u64,

@@ -1,5 +1,7 @@
 // The records of the queue (000) as they go in and come back by value, beside the storage that the caller lends. No code: specs/
 // holds what the queue is, for the contracts and for the theorem over every list of calls alike.
+#![tactic(auto)]
+
 ghost use Rattle.model.specs.Across.{FlippedAcross};
 ghost use Rattle.model.specs.Delay.{JitterAlone};
 ghost use Rattle.model.specs.Flipped.{FlippedBit};
@@ -16,27 +18,27 @@ use rtp::{ExtendedRtpTimestamp, ExtendedSequenceNumber};
 use rtx_state::RtxState;
 
 // What the opening fixes.
-#[derive(Drop)]
+#[derive(Clone, Copy)]
 pub struct Config {
     pub settings: Settings,
     pub senders: Senders,
 }
 
 // The media packet with the highest number so far.
-#[derive(Drop)]
+#[derive(Clone, Copy)]
 pub struct Received {
     pub instant: u64,
     pub timestamp: ExtendedRtpTimestamp,
     pub number: ExtendedSequenceNumber,
 }
 
-#[derive(Drop)]
+#[derive(Clone, Copy)]
 pub enum LastReceived {
     None,
     Some(Received),
 }
 
-#[derive(Drop)]
+#[derive(Clone, Copy)]
 pub struct Counters {
     pub dropped: u64,
     pub received: u64,
@@ -45,7 +47,7 @@ pub struct Counters {
 }
 
 // The Rust's `Queue` without its three lists.
-#[derive(Drop)]
+#[derive(Clone, Copy)]
 pub struct Queue {
     pub config: Config,
     // The latest accepted instant, in nanoseconds.
@@ -60,7 +62,7 @@ pub struct Queue {
 }
 
 // The session: the queue, and how many places of the lent storage each of its lists fills.
-#[derive(Drop)]
+#[derive(Clone, Copy)]
 pub struct Session {
     pub queue: Queue,
     pub entries: usize,

@@ -1,4 +1,6 @@
 // Loss in ten thousandths and NACK attempts of a dynamic delay (02, point 7), in whole numbers; 003 has a logarithm in its place.
+#![tactic(auto)]
+
 ghost use Rattle.std.specs.Prelude.{◌≡◌, ◌≤◌, T};
 ghost use Rattle.std.specs.Float.Ieee.{le};
 ghost use Rattle.packet_loss.specs.Loss.{zero32, one32};

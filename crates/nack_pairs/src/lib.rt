@@ -1,5 +1,7 @@
 // 02, point 1: lost numbers as the entries of a generic NACK (RFC 4585, section 6.2.1), four bytes to a pair of a first number and a mask of
 // the sixteen that follow it; and the reader of such entries.
+#![tactic(auto)]
+
 ghost use Rattle.std.specs.Prelude.{◌≡◌, ◌+◌, ◌-◌, ◌≤◌, length};
 ghost use Rattle.words.specs.Words.{written};
 ghost use Rattle.nack_pairs.specs.Pairs.{pair};
@@ -13,7 +15,7 @@ pub mod read;
 pub const ENTRY_BYTES: usize = 4;
 
 // How far the entries go, and the last pair, which may still name more; where there are no bytes there is none.
-#[derive(Drop)]
+#[derive(Clone, Copy)]
 pub struct Naming {
     pub bytes: usize,
     pub first: u64,

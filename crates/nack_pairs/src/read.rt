@@ -10,7 +10,7 @@ use super::ENTRY_BYTES;
 const NUMBERS: usize = 17;
 
 // How many numbers were written, or the number of the refusal.
-#[derive(Drop)]
+#[derive(Clone, Copy)]
 pub enum ReadAnswer {
     Numbers(usize),
     Refused(u64),

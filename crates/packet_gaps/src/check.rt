@@ -15,7 +15,7 @@ use rtp::ExtendedSequenceNumber;
 use rtp::opt::OptNumber;
 
 // What check 16 holds the numbers and instants of the lists against.
-#[derive(Drop)]
+#[derive(Clone, Copy)]
 pub struct Bounds {
     // In sorted mode the last returned: entries and gaps are above it.
     pub passed: OptNumber,

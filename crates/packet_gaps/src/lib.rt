@@ -1,5 +1,7 @@
 // 001: the gaps, numbers that have not come, each with its NACK state, in counted places of a lent slice. The session keeps their count
 // n. Where a function wants `GapsIn`, `check::tidy` made it so.
+#![tactic(auto)]
+
 ghost use Rattle.std.specs.Prelude.{◌≡◌, true, ◌++◌, [], map, ◌+◌, ◌*◌, ◌-◌, ◌≤◌, ◌<◌, length, take, drop};
 ghost use Rattle.words.specs.Words.{written};
 ghost use Rattle.words.specs.Blocks.{laid};
@@ -19,7 +21,7 @@ pub mod nacks;
 // Words of a gap's place.
 pub const GAP_WORDS: usize = 4;
 
-#[derive(Drop)]
+#[derive(Clone, Copy)]
 pub struct Gap {
     pub number: ExtendedSequenceNumber,
     pub detected: u64,

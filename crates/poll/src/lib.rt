@@ -1,4 +1,6 @@
 // `poll` (000; 01, "Hand-out"): the gaps given up, then the front entry, if its time has come.
+#![tactic(auto)]
+
 ghost use Rattle.std.specs.Prelude.{◌≡◌, true, List, [], ◌∷◌, ℕ, ◌+◌, ◌*◌, ◌≤◌, ◌<◌, ◌^◌, T, length, take};
 ghost use Rattle.words.specs.Blocks.{laid};
 ghost use Rattle.words.specs.Order.{ascends};
@@ -37,7 +39,7 @@ pub mod wire;
 
 // A packet as `poll` hands it out: its own fields, the instant it came (none for a repair) and the delay; `size` bytes of the output
 // are its payload.
-#[derive(Drop)]
+#[derive(Clone, Copy)]
 pub struct HandedOut {
     pub pt: u8,
     pub sequence_number: SequenceNumber,
@@ -49,14 +51,14 @@ pub struct HandedOut {
     pub size: usize,
 }
 
-#[derive(Drop)]
+#[derive(Clone, Copy)]
 pub enum PollAnswer {
     Nothing,
     Packet(HandedOut),
     Refused(u64),
 }
 
-#[derive(Drop)]
+#[derive(Clone, Copy)]
 pub struct Polled {
     pub answer: PollAnswer,
     pub session: Session,
@@ -64,7 +66,7 @@ pub struct Polled {
 
 // What a `poll` does: how many gaps at the front are given up, how long packets are kept, whether the front entry goes out, and how many
 // gaps are lost below it.
-#[derive(Drop)]
+#[derive(Clone, Copy)]
 struct Effect {
     given: usize,
     delay: u64,

@@ -16,28 +16,28 @@ use config::NackTimings;
 use model::Session;
 
 // How many numbers stand in the output.
-#[derive(Drop)]
+#[derive(Clone, Copy)]
 pub enum NackAnswer {
     Nothing,
     Numbers(usize),
     Refused(u64),
 }
 
-#[derive(Drop)]
+#[derive(Clone, Copy)]
 pub struct PolledNack {
     pub answer: NackAnswer,
     pub session: Session,
 }
 
 // What a `poll_nack` finds: how many gaps at the front are given up, and the timings by which the others are due.
-#[derive(Drop)]
+#[derive(Clone, Copy)]
 pub(crate) struct Found {
     pub given: usize,
     pub timings: NackTimings,
 }
 
 // The number of the check that catches the call, or what it finds.
-#[derive(Drop)]
+#[derive(Clone, Copy)]
 pub(crate) enum Judged {
     Refused(u64),
     Passed(Found),

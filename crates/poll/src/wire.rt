@@ -12,13 +12,13 @@ use super::nack::{Found, Judged};
 use model::Session;
 
 // How many bytes of the output are entries: 0 where nothing is due.
-#[derive(Drop)]
+#[derive(Clone, Copy)]
 pub enum WireAnswer {
     Bytes(usize),
     Refused(u64),
 }
 
-#[derive(Drop)]
+#[derive(Clone, Copy)]
 pub struct PolledWire {
     pub answer: WireAnswer,
     pub session: Session,

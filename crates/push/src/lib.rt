@@ -1,4 +1,6 @@
 // `push` (000): a media packet, from the datagram's bytes to its place in the storage.
+#![tactic(auto)]
+
 ghost use Rattle.std.specs.Prelude.{◌≡◌, true, List, [], ℕ, suc, ◌+◌, ◌≤◌, ◌<◌, length};
 ghost use Rattle.model.specs.Rules as Rules;
 ghost use Rattle.model.specs.Push as Push;
@@ -24,21 +26,21 @@ use session::push::Place;
 mod place;
 pub mod rtx;
 
-#[derive(Drop)]
+#[derive(Clone, Copy)]
 pub enum MediaAnswer {
     Queued,
     Dropped,
     Refused(u64),
 }
 
-#[derive(Drop)]
+#[derive(Clone, Copy)]
 pub struct Pushed {
     pub answer: MediaAnswer,
     pub session: Session,
 }
 
 // What was found of a datagram that no check turns back: its packet, the entry that it becomes, and where its number stands.
-#[derive(Drop)]
+#[derive(Clone, Copy)]
 pub struct Found {
     pub instant: u64,
     pub packet: RtpPacket,
@@ -47,7 +49,7 @@ pub struct Found {
 }
 
 // A datagram, once every check after 16 is made.
-#[derive(Drop)]
+#[derive(Clone, Copy)]
 pub enum Judged {
     Refused(u64),
     Accepted(Found),

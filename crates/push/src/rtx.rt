@@ -23,7 +23,7 @@ use rtp::{ExtendedSequenceNumber, SequenceNumber};
 use rtp_packet::{Original, Parsed, RtpPacket};
 use session::rtx::Fate;
 
-#[derive(Drop)]
+#[derive(Clone, Copy)]
 pub enum RepairAnswer {
     Recovered,
     Redundant,
@@ -31,7 +31,7 @@ pub enum RepairAnswer {
     Refused(u64),
 }
 
-#[derive(Drop)]
+#[derive(Clone, Copy)]
 pub struct PushedRtx {
     pub answer: RepairAnswer,
     pub session: Session,

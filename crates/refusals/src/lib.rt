@@ -1,6 +1,8 @@
 // The numbers under which a call is refused: the table "Where a call is turned back" of document 01, each with its words there and those
 // that document 02 adds.
 // A refused call returns its number only; session, clock and every lent buffer are unchanged. 0 is no refusal.
+#![tactic(auto)]
+
 ghost use Rattle.std.specs.Prelude.{◌≡◌};
 ghost use Rattle.refusals.specs.Refusals.{or_else, numbers};
 

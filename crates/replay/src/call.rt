@@ -5,7 +5,7 @@ use crate::input::{Input, LINE};
 use crate::record::{COUNT, FIRST, OPEN, PLACES, Record, SIZE};
 
 // What a line is. The numbers of a call stand in the record; the bytes of its HEX at the front of the line, their count in the record.
-#[derive(Drop)]
+#[derive(Clone, Copy)]
 pub enum Call {
     PassedOver,
     Unreadable,

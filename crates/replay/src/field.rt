@@ -5,7 +5,7 @@ use crate::record::{PLACES, Record};
 use rtp::opt::Opt;
 
 // A number, and the place behind its field.
-#[derive(Drop)]
+#[derive(Clone, Copy)]
 pub enum Found {
     None,
     Number(u64, usize),

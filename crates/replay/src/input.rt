@@ -14,7 +14,7 @@ pub type Block = [u8; 65536];
 
 // Where reading stands. The bytes of the block from `from` to `size` are still to be read. Of the line n bytes are gathered; it is whole
 // where its line feed was read. After the end of input nothing more comes.
-#[derive(Drop)]
+#[derive(Clone, Copy)]
 pub struct Input {
     pub from: usize,
     pub size: usize,

@@ -6,6 +6,8 @@
 //
 // Memory is bounded: one block of input, one line, one block of answers, and storage for the largest session, of which each session is
 // lent the part that its D and G ask for.
+#![tactic(auto)]
+
 mod answer;
 mod call;
 mod field;

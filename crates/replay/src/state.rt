@@ -164,7 +164,7 @@ fn lost(out: &mut [u8], at: usize, words: &[u64], i: usize) -> usize {
     remembered_line(out, at, lost_nacked::read(words, i))
 }
 
-#[derive(Drop)]
+#[derive(Clone, Copy)]
 enum List {
     Entries,
     Gaps,

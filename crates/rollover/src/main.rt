@@ -1,6 +1,8 @@
 // The figures of 01's "Numbers" that are not proved one by one: at both widths, in cycles 0 to 3 and in the last cycle of 64 bits, for
 // references at the ends and at the middle of the cycle, the numbers next to the reference (the Rust file's own `rollover` is among
 // them) and those half a cycle away. A line for each: width, reference, number, extended number.
+#![tactic(auto)]
+
 use rtp::{ExtendedRtpTimestamp, ExtendedSequenceNumber, RtpTimestamp, SequenceNumber};
 use std::num::{wrapping_add_u64, wrapping_sub_u64};
 

@@ -1,5 +1,7 @@
 // The datagram reader (007; RFC 3550, section 5.1) and the repair reader above it (RFC 4588, section 4). No field is handed on before
 // version, lengths, payload type and SSRC were checked.
+#![tactic(auto)]
+
 ghost use Rattle.std.specs.Prelude.{◌≡◌};
 ghost use Rattle.rtp_packet.specs.Header.{between};
 ghost use Rattle.rtp_packet.specs.Datagram.{largest_payload, largest_repair, wrong_padding, datagram_refusal, packet_of, parsed};
@@ -17,7 +19,7 @@ pub const LARGEST_PAYLOAD: usize = 320;
 pub const LARGEST_REPAIR: usize = 322;
 
 // What the header says; the payload is the datagram's bytes from start up to end.
-#[derive(Drop)]
+#[derive(Clone, Copy)]
 pub struct RtpPacket {
     pub pt: u8,
     pub sequence_number: SequenceNumber,
@@ -29,7 +31,7 @@ pub struct RtpPacket {
 }
 
 // A packet, or the number of the refusal.
-#[derive(Drop)]
+#[derive(Clone, Copy)]
 pub enum Parsed {
     Packet(RtpPacket),
     Refused(u64),
@@ -143,7 +145,7 @@ pub fn payload(datagram: &[u8], packet: RtpPacket) -> &[u8]
 }
 
 // The number that a repair's payload begins with, or that of the refusal.
-#[derive(Drop)]
+#[derive(Clone, Copy)]
 pub enum Original {
     Number(SequenceNumber),
     Refused(u64),

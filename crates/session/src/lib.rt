@@ -1,5 +1,7 @@
 // The parts of the queue (000) that need no storage: what a call makes of the records that go by value, and which check turns it back by the
 // values that it works out. Each function is one definition of `model`.
+#![tactic(auto)]
+
 ghost use Rattle.std.specs.Prelude.{◌≡◌, ◌+◌, ◌<◌, ◌^◌};
 ghost use Rattle.rtp.specs.Opt as Opt;
 ghost use Rattle.model.specs.Records as Records;

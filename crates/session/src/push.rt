@@ -13,7 +13,7 @@ use model::{Counters, LastReceived, Queue, Received};
 use rtp::{ExtendedRtpTimestamp, ExtendedSequenceNumber};
 
 // Where a media number stands: before any other packet, above the highest by at most 1,000 or by more, in an open gap, or elsewhere.
-#[derive(Drop)]
+#[derive(Clone, Copy)]
 pub enum Place {
     First,
     Near(ExtendedSequenceNumber),

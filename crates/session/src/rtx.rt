@@ -12,7 +12,7 @@ use rtp::{ExtendedRtpTimestamp, ExtendedSequenceNumber};
 use rtx_state::RtxState;
 
 // What becomes of a repair.
-#[derive(Drop)]
+#[derive(Clone, Copy)]
 pub enum Fate {
     TooLate,
     Recovered,

@@ -1,4 +1,6 @@
 // The settings as one line of text (02, point 13): the reader, the writer, and the theorems that join them.
+#![tactic(auto)]
+
 ghost use Rattle.std.specs.Prelude.{◌≡◌, cond, [], ◌∷◌, ◌+◌, ◌*◌, ◌≤◌, ◌<◌, length, get_or};
 ghost use Rattle.std.proofs.Math.Option.{none, some};
 ghost use Rattle.words.specs.Words.{over};
@@ -20,14 +22,14 @@ const LENGTH: usize = 145;
 // The largest number that the record's narrower fields hold.
 const MAX_U32: u64 = 4294967295;
 
-#[derive(Drop)]
+#[derive(Clone, Copy)]
 pub enum ReadSettings {
     Settings(Settings),
     Refused(u64),
 }
 
 // How many bytes were written, or the number of the refusal.
-#[derive(Drop)]
+#[derive(Clone, Copy)]
 pub enum WroteSettings {
     Bytes(usize),
     Refused(u64),

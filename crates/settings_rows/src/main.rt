@@ -1,5 +1,7 @@
 // 02, point 13, as a run. Each line is read, and what it keeps is written as a line again; where it keeps nothing, the refusal's number stands.
 // First 02's order of fields in each mode, then a version 1 line, then a line for each way to be refused.
+#![tactic(auto)]
+
 use libc::STDOUT_FILENO;
 use settings_line::{ReadSettings, WroteSettings};
 

@@ -1,4 +1,6 @@
 // The settings of a line as they cross the boundary: plain numbers, no enum. The reader and the writer of the line on them.
+#![tactic(auto)]
+
 ghost use Rattle.std.specs.Prelude.{◌≡◌};
 ghost use Rattle.settings_words.specs.Words.{settings_of, words_of, no_settings, told, read_words, outcome, wrote_words, mode_fits, write_words, Kept};
 
@@ -8,7 +10,7 @@ use settings_line::{ReadSettings, WroteSettings};
 // `mode` is 0 for Passthrough, 1 for a fixed delay, 2 for a dynamic one. `min_delay`, `max_delay` and `target_recovery` are of mode 2 and 0
 // outside it.
 #[repr(C)]
-#[derive(Drop)]
+#[derive(Clone, Copy)]
 pub struct SettingsWords {
     pub delay: u64,
     pub initial_nack_delay: u64,
@@ -25,7 +27,7 @@ pub struct SettingsWords {
 
 // Settings of zeros where the line was refused.
 #[repr(C)]
-#[derive(Drop)]
+#[derive(Clone, Copy)]
 pub struct SettingsRead {
     pub refusal: u64,
     pub settings: SettingsWords,
@@ -33,7 +35,7 @@ pub struct SettingsRead {
 
 // How many bytes of the output are the line.
 #[repr(C)]
-#[derive(Drop)]
+#[derive(Clone, Copy)]
 pub struct SettingsWritten {
     pub refusal: u64,
     pub bytes: usize,

@@ -1,5 +1,7 @@
 // 01's check 16 on the session and the lent slices, which every call makes first, and the zeros that an accepted call leaves in the places
 // that are not used.
+#![tactic(auto)]
+
 ghost use Rattle.std.specs.Prelude.{◌≡◌, true, List, ℕ, ◌*◌, ◌≤◌, length};
 ghost use Rattle.refusals.specs.Refusals.{or_else};
 ghost use Rattle.model.specs.Valid.{counts_fit, lists_sound};
