@@ -1,0 +1,15 @@
+-- `words::octets::copy` meets its contract: each turn writes the next of `src`.
+use mathlib.Core.Path.{◌∙◌, refl}
+use Prim.Native.Nat.{◌-◌}
+use native.Mathlib.Omega.{arith}
+use lib.ListN.{length}
+use lib.Seq.{take-length}
+use Rattle.words.proofs.Loops.{Writing, writing_none, writing_more, writing_all}
+use borrow.Author.Rules.{rules}
+use Rattle.words.proofs.octets.copy.Given as goal
+
+abbrev pub invariant-loop-i : goal.invariant-loop-i
+invariant-loop-i l = Writing l.src l.initial.to l.to (length l.src) l.i
+
+abbrev pub decreases-loop-i : goal.decreases-loop-i
+decreases-loop-i l = length l.src - l.i
