@@ -1,0 +1,25 @@
+-- `digits` meets its contract: what the digits passed make, with those left behind it, is what all of them make.
+use Prim.Native.Nat.{◌≤◌, ◌+◌, ◌-◌}
+use mathlib.Core.Path.{◌≡◌}
+use borrow.Author.Rules.{rules}
+use native.Mathlib.Omega.{arith}
+use lib.ListN.{length, drop}
+use Rattle.rtp.specs.declared.opt.Opt.TheVariants.{Some}
+use Rattle.columns.specs.Columns.{digits_of}
+use Rattle.columns.proofs.Reading.{digits-none, digits_step, digits-end}
+use Rattle.columns.proofs.digits.Goals as goal
+
+pub returns-in_default : goal.returns-in_default
+returns-in_default c =
+    let s = c.args.s.now in
+    cc (digits_step s c.loop-i.i c.loop-i.value (omega arith), digits-none (drop (c.loop-i.i + 1) s))
+
+pub loop-i-preserved : goal.loop-i-preserved
+loop-i-preserved c =
+    let s = c.args.s.now in
+    (omega arith, cc (digits_step s c.loop-i.i c.loop-i.value (omega arith)))
+
+pub returns : goal.returns
+returns c =
+    let s = c.args.s.now in
+    cc (digits-end s c.loop-i.i c.loop-i.value c.loop-i-test.false)
