@@ -8,6 +8,7 @@ ghost use Rattle.std.specs.Prelude.{◌≤◌};
 
 use rtp::Ssrc;
 use rtp_packet::{Original, Parsed, RtpPacket};
+use std::io::{Read, Stdin};
 
 // b at place n, where there is one; the place after it.
 fn push(out: &mut [u8], n: usize, b: u8) -> usize {
@@ -213,10 +214,10 @@ struct Turn {
     more: bool,
 }
 
-fn read_some(line: &mut [u8], n: usize) -> Turn {
+// A read that fails counts as the end of the input.
+fn read_some(mut stdin: Stdin, line: &mut [u8], n: usize) -> Turn {
     let mut chunk = io::large_buffer();
-    let got = libc::read(0, &mut chunk);
-    let count = io::count(got, &chunk);
+    let count = stdin.read(&mut chunk).unwrap_or(0);
     if count == 0 {
         return Turn { n, more: false };
     }
@@ -227,11 +228,11 @@ fn read_some(line: &mut [u8], n: usize) -> Turn {
 }
 
 // To the end of the input.
-fn run(line: &mut [u8]) {
+fn run(stdin: Stdin, line: &mut [u8]) {
     let mut turns = u64::MAX;
     let mut n = 0;
     while turns > 0 {
-        let t = read_some(line, n);
+        let t = read_some(stdin, line, n);
         if !t.more {
             return;
         }
@@ -240,7 +241,7 @@ fn run(line: &mut [u8]) {
     }
 }
 
-fn main() {
+fn main(rt: HostRuntime) {
     let mut line = [0u8; 8192];
-    run(&mut line);
+    run(rt.stdin(), &mut line);
 }

@@ -28,61 +28,37 @@ pub enum Call {
 }
 
 fn word_with_now(s: &[u8]) -> Call {
-    if check::same(s, b"media") {
-        return Call::Media;
+    match s {
+        b"media" => Call::Media,
+        b"burst" => Call::Burst,
+        b"repair" => Call::Repair,
+        b"poll" => Call::Poll,
+        b"poll_nack" => Call::PollNack,
+        b"nack_wire" => Call::NackWire,
+        b"timeout_receive" => Call::TimeoutReceive,
+        b"timeout_nack" => Call::TimeoutNack,
+        _ => Call::Unreadable,
     }
-    if check::same(s, b"burst") {
-        return Call::Burst;
-    }
-    if check::same(s, b"repair") {
-        return Call::Repair;
-    }
-    if check::same(s, b"poll") {
-        return Call::Poll;
-    }
-    if check::same(s, b"poll_nack") {
-        return Call::PollNack;
-    }
-    if check::same(s, b"nack_wire") {
-        return Call::NackWire;
-    }
-    if check::same(s, b"timeout_receive") {
-        return Call::TimeoutReceive;
-    }
-    if check::same(s, b"timeout_nack") {
-        return Call::TimeoutNack;
-    }
-    Call::Unreadable
 }
 
 // Of the calls that need no session.
 fn word_apart(s: &[u8]) -> Call {
-    if check::same(s, b"read_nacks") {
-        return Call::ReadNacks;
+    match s {
+        b"read_nacks" => Call::ReadNacks,
+        b"read_settings" => Call::ReadSettings,
+        b"write_settings" => Call::WriteSettings,
+        _ => word_with_now(s),
     }
-    if check::same(s, b"read_settings") {
-        return Call::ReadSettings;
-    }
-    if check::same(s, b"write_settings") {
-        return Call::WriteSettings;
-    }
-    word_with_now(s)
 }
 
 fn word(s: &[u8]) -> Call {
-    if check::same(s, b"open") {
-        return Call::Open;
+    match s {
+        b"open" => Call::Open,
+        b"rtx_stats" => Call::RtxStats,
+        b"highest" => Call::Highest,
+        b"state" => Call::State,
+        _ => word_apart(s),
     }
-    if check::same(s, b"rtx_stats") {
-        return Call::RtxStats;
-    }
-    if check::same(s, b"highest") {
-        return Call::Highest;
-    }
-    if check::same(s, b"state") {
-        return Call::State;
-    }
-    word_apart(s)
 }
 
 // The place in the record behind the numbers of a call, before HEX where it has that; the last, where that hangs on the first number.

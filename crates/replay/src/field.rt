@@ -2,6 +2,7 @@
 ghost use Rattle.std.specs.Prelude.{◌+◌, ◌*◌, ◌≤◌, length};
 
 use crate::record::{PLACES, Record};
+use crate::scan;
 use rtp::opt::Opt;
 
 // A number, and the place behind its field.
@@ -16,7 +17,7 @@ pub(crate) fn end(line: &[u8], from: usize) -> usize
     requires { from ≤ length line.now }
     ensures { (from ≤ result) × (result ≤ length line.now) }
 {
-    bytes::scan::find(line, from, line.len(), b' ')
+    scan::find(line, from, line.len(), b' ')
 }
 
 // The number whose field begins behind the blank at `at`.
@@ -102,7 +103,7 @@ fn decode(line: &mut [u8], first: usize, size: usize) -> bool
 
 // Whether a field is a dash alone.
 fn is_dash(field: &[u8]) -> bool {
-    check::same(field, b"-")
+    field == b"-".as_slice()
 }
 
 // The field behind the blank at `at` as HEX. Its bytes go to the front of the line; how many they are, and the place behind the field.

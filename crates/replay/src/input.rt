@@ -2,7 +2,8 @@
 // what fills it is too long.
 ghost use Rattle.std.specs.Prelude.{◌≤◌, length};
 
-use libc::STDIN_FILENO;
+use crate::scan;
+use std::io::{Read, Stdin};
 
 // One byte more than the longest line that is read (docs/TRACE.md, "Lines").
 pub const LINE: usize = 65536;
@@ -30,10 +31,10 @@ fn gather(line: &mut [u8], n: usize, part: &[u8]) -> usize {
     }
     let room = line.len() - n;
     if part.len() <= room {
-        bytes::copy(part, &mut line[n..]);
+        line[n..n + part.len()].copy_from_slice(part);
         return n + part.len();
     }
-    bytes::copy(&part[0..room], &mut line[n..]);
+    line[n..].copy_from_slice(&part[0..room]);
     line.len()
 }
 
@@ -41,7 +42,7 @@ fn gather(line: &mut [u8], n: usize, part: &[u8]) -> usize {
 fn cut(block: &[u8], from: usize, size: usize, line: &mut [u8], n: usize) -> Input
     requires { (from ≤ size) × (size ≤ length block.now) }
 {
-    let end = bytes::scan::find(block, from, size, b'\n');
+    let end = scan::find(block, from, size, b'\n');
     let gathered = gather(line, n, &block[from..end]);
     if end < size {
         return Input {
@@ -61,10 +62,9 @@ fn cut(block: &[u8], from: usize, size: usize, line: &mut [u8], n: usize) -> Inp
     }
 }
 
-// A block of input. Its end is taken for the line feed of a last line that has none.
-fn read(block: &mut [u8], line: &mut [u8], n: usize) -> Input {
-    let got = libc::read(STDIN_FILENO, block);
-    let size = io::count(got, block);
+// A block of input. Its end is taken for the line feed of a last line that has none, and a read that fails for its end.
+fn read(mut stdin: Stdin, block: &mut [u8], line: &mut [u8], n: usize) -> Input {
+    let size = stdin.read(block).unwrap_or(0);
     if size == 0 {
         return Input {
             from: 0,
@@ -99,15 +99,15 @@ impl Input {
     }
 
     // One turn: to the end of the line, or as far as the block goes.
-    pub(crate) fn next(self, block: &mut [u8], line: &mut [u8]) -> Self {
+    pub(crate) fn next(self, stdin: Stdin, block: &mut [u8], line: &mut [u8]) -> Self {
         let from = self.from;
         let size = self.size;
         let n = begun(self);
         if size <= from {
-            return read(block, line, n);
+            return read(stdin, block, line, n);
         }
         if block.len() < size {
-            return read(block, line, n);
+            return read(stdin, block, line, n);
         }
         cut(block, from, size, line, n)
     }

@@ -17,9 +17,10 @@ mod output;
 mod put;
 mod record;
 mod run;
+mod scan;
 mod state;
 
-fn main() {
+fn main(rt: HostRuntime) {
     let mut entries = [0u64; make::ENTRIES];
     let mut payloads = [0u8; make::PAYLOADS];
     let mut gaps = [0u64; make::GAPS];
@@ -31,6 +32,7 @@ fn main() {
     let mut numbers = [0u16; make::NUMBERS];
     let mut out = io::large_buffer();
     run::run(
+        rt.stdin(),
         &mut entries,
         &mut payloads,
         &mut gaps,

@@ -1,7 +1,8 @@
 // Answers are gathered in a lent buffer, of which `at` bytes are filled, and written in blocks.
 use crate::input::Input;
 use config::MAX_GAPS;
-use libc::STDOUT_FILENO;
+
+const STDOUT: i32 = 1;
 
 // The longest part of an answer that is put at once: `wire`, a blank, eight digits for each of the largest G, and the line feed. Lists of
 // numbers make room for each.
@@ -10,7 +11,7 @@ const ROOM: usize = 5 + 8 * MAX_GAPS + 1;
 // Writes what is gathered; the place to go on at.
 fn write(out: &[u8], at: usize) -> usize {
     if at <= out.len() {
-        io::write_all(STDOUT_FILENO, &out[0..at]);
+        io::write_all(STDOUT, &out[0..at]);
     }
     0
 }

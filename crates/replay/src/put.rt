@@ -2,8 +2,8 @@
 // out: `output::room` makes room for a line, or for the next number of a list.
 ghost use Rattle.std.specs.Prelude.{◌*◌, ◌≤◌, length};
 
-use crate::output;
 use crate::record::{COUNT, FIRST, MISSING, Record};
+use crate::{output, scan};
 use rtp::opt::Opt;
 
 pub(crate) fn text(out: &mut [u8], at: usize, s: &[u8]) -> usize {
@@ -13,7 +13,7 @@ pub(crate) fn text(out: &mut [u8], at: usize, s: &[u8]) -> usize {
     if out.len() - at < s.len() {
         return at;
     }
-    bytes::copy(s, &mut out[at..]);
+    out[at..at + s.len()].copy_from_slice(s);
     at + s.len()
 }
 
@@ -30,7 +30,7 @@ fn cell(out: &mut [u8], at: usize, words: &[u8], k: usize) -> usize {
         return at;
     }
     let from = WIDTH * k;
-    let to = bytes::scan::find(words, from, from + WIDTH, b'.');
+    let to = scan::find(words, from, from + WIDTH, b'.');
     text(out, at, &words[from..to])
 }
 

@@ -5,9 +5,11 @@ use crate::make::{Entries, Gaps, Numbers, Octets, Payloads, Remembered};
 use crate::record::Record;
 use crate::{answer, call, make, output, state};
 use queue::Opening;
+use std::io::Stdin;
 
 // Every line of the input. Answers are written before more input is waited for, so that a program at the other end of a pipe has them.
 pub(crate) fn run(
+    stdin: Stdin,
     entries: &mut Entries,
     payloads: &mut Payloads,
     gaps: &mut Gaps,
@@ -32,7 +34,7 @@ pub(crate) fn run(
         if !input.more {
             return;
         }
-        input = input.next(block, line);
+        input = input.next(stdin, block, line);
         let call = call::read(line, input, r);
         s = make::step(
             s, entries, payloads, gaps, remembered, call, r, line, octets, numbers,

@@ -2,12 +2,13 @@
 // First 02's order of fields in each mode, then a version 1 line, then a line for each way to be refused.
 #![tactic(auto)]
 
-use libc::STDOUT_FILENO;
 use settings_line::{ReadSettings, WroteSettings};
 
+const STDOUT: i32 = 1;
+
 fn refused(number: u64) {
-    io::print_decimal(STDOUT_FILENO, number);
-    io::write_all(STDOUT_FILENO, b"\n");
+    io::print_decimal(STDOUT, number);
+    io::write_all(STDOUT, b"\n");
 }
 
 fn again(line: &[u8]) {
@@ -15,7 +16,7 @@ fn again(line: &[u8]) {
     match settings_line::read_line(line) {
         ReadSettings::Settings(s) => match settings_line::write_line(s, &mut out) {
             WroteSettings::Bytes(_) => {
-                io::write_all(STDOUT_FILENO, &out);
+                io::write_all(STDOUT, &out);
             }
             WroteSettings::Refused(k) => refused(k),
         },
