@@ -1,0 +1,13 @@
+-- `write_numbers` meets its contract: field i is that of number i.
+use Prim.Native.Nat.{◌-◌}
+use native.Mathlib.Omega.{arith}
+use lib.ListN.{length}
+use Rattle.settings_line.proofs.Numbered.{Putting, putting_none, putting_more, putting_all}
+use borrow.Author.Rules.{rules}
+use Rattle.settings_line.proofs.write_numbers.Given as goal
+
+abbrev pub invariant-loop-i : goal.invariant-loop-i
+invariant-loop-i l = Putting l.numbers l.initial.out l.out l.i
+
+abbrev pub decreases-loop-i : goal.decreases-loop-i
+decreases-loop-i l = length l.numbers - l.i
