@@ -86,7 +86,7 @@ module _ {A : Type 0} where
   pub each_drop : {P : A → Type 0} {l : List A} (n : ℕ) → Each P l → Each P (drop n l)
   each_drop zero h = h
   each_drop (suc n) none = none
-  each_drop (suc n) (more h t) = each_drop n t
+  each_drop {P = P} (suc n) (more {x = x} {xs = xs} h t) = each_drop {P = P} {l = xs} n t
 
   pub each_keep : {P : A → Type 0} {l : List A} (p : A → Bool) → Each P l → Each P (keep p l)
   unfolding keep
@@ -138,7 +138,7 @@ module _ {A : Type 0} where
   length-trailing p (x ∷ xs) = let ih = length-trailing p xs in by_cases (λ (l : List A). length l ≤ suc (length xs)) (p x) (λ y. omega arith) (λ n. omega arith)
 
 module _ {A B : Type 0} where
-  pub each_map : {P : B → Type 0} {l : List A} (f : A → B) → Each (λ x. P (f x)) l → Each P (map f l)
+  pub each_map : {P : B → Type 0} (f : A → B) {l : List A} → Each (λ x. P (f x)) l → Each P (map f l)
   each_map f none = none
   each_map f (more h t) = more h (each_map f t)
 

@@ -3,8 +3,7 @@ use borrow.Author.Tests.{ne_eqb}
 use Rattle.model.specs.Table.{refusal, opening_refusal}
 use Rattle.model.specs.Did.{turned_back, did, opened}
 use Rattle.model.specs.Unaltered.{Unaltered}
-use Rattle.model.proofs.unaltered.Statement.{statement}
-use Rattle.model.proofs.unaltered.Tie as tie
+use Rattle.model.proofs.unaltered.Goals as goal
 
 unaltered : Unaltered
 unfolding turned_back did opened
@@ -13,8 +12,5 @@ unaltered = record {
   opening = λ c t h. rw (ne_eqb (opening_refusal c t) 0 h);
 }
 
-returns : tie.Need-returns
+pub returns : goal.returns
 returns c = unaltered
-
-pub unaltered-spec : {M : Type 1} → statement M
-unaltered-spec = tie.close (tie.spec returns)

@@ -11,8 +11,7 @@ use Rattle.settings_line.specs.Fields.{numbers_of, settings_of as settingsIn}
 use Rattle.settings_line.proofs.Ranges.{settings_back}
 use Rattle.settings_words.specs.Words.{settings_of, words_of, mode_fits, Kept}
 use borrow.Author.Rules.{rules}
-use Rattle.settings_words.proofs.settings_are_kept.Statement.{statement}
-use Rattle.settings_words.proofs.settings_are_kept.Tie as tie
+use Rattle.settings_words.proofs.settings_are_kept.Goals as goal
 
 fits : (s : Settings) → mode_fits (words_of s) ≡ true
 unfolding mode_fits words_of mode_number dynamic_of no_dynamic
@@ -28,8 +27,5 @@ back : (s : Settings) → settings_of (words_of s) ≡ s
 unfolding settings_of words_of settingsIn numbers_of
 back = settings_back
 
-returns : tie.Need-returns
+pub returns : goal.returns
 returns c = record { taken = fits; same = back }
-
-pub settings-are-kept-spec : {M : Type 1} → statement M
-settings-are-kept-spec = tie.close (tie.spec returns)

@@ -16,8 +16,7 @@ use Rattle.model.specs.Records.{Gap, Remembered, gap_numbers}
 use Rattle.model.specs.Rules.{max_gap_size, max_lost_nacked, place_of, gaps_after, near, far, between, fresh, below, gaps_below, gaps_from, tried, once, remember, latest, remembered_after, given_up_in, not_given_up_in, lost_below_of, left_from_of}
 use Rattle.model.specs.Shared.{longest_step, most_remembered, SharedRules, stepped}
 use Rattle.model.proofs.Lists.{each_kept, every_of_each, length-following}
-use Rattle.model.proofs.shared_rules.Statement.{statement}
-use Rattle.model.proofs.shared_rules.Tie as tie
+use Rattle.model.proofs.shared_rules.Goals as goal
 
 -- ---- a step
 
@@ -57,7 +56,6 @@ unfolding gaps_after
 clears now h s l many = rw (at_far h s l many)
 
 -- ---- numbers lost
-
 lost_below : (sorted : RtpInboundStreamSortedQueueMode) (w : ℕ) (l : List Gap) → T (every? (λ (g : Gap). ltb g.number w) (lost_below_of (SortedQueue sorted) w l))
 unfolding lost_below_of gaps_below below
 lost_below sorted w l = every_of_each (λ (g : Gap). ltb g.number w) (λ g t. t) (each_kept (λ (g : Gap). ltb g.number w) l)
@@ -103,7 +101,6 @@ unfolding not_given_up_in tried
 first_left set l g gs e = leb-false set.max_nack_attempts g.nacks (first-trailing (λ (x : Gap). leb set.max_nack_attempts x.nacks) l g gs e)
 
 -- ---- numbers remembered
-
 remembered : (rtx : Bool) (lost : List Gap) (l : List Remembered) → length l ≤ most_remembered → length (remembered_after rtx lost l) ≤ most_remembered
 unfolding remembered_after latest
 remembered false lost l h = h
@@ -134,8 +131,5 @@ shared_rules = record {
   all_remembered = all_remembered;
 }
 
-returns : tie.Need-returns
+pub returns : goal.returns
 returns c = shared_rules
-
-pub shared-rules-spec : {M : Type 1} → statement M
-shared-rules-spec = tie.close (tie.spec returns)
