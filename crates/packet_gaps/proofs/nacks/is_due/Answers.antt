@@ -1,0 +1,6 @@
+-- `is_due`: the test of what `due_at` answers.
+use borrow.Author.Rules.{rules}
+use Rattle.packet_gaps.proofs.nacks.is_due.Goals as goal
+
+pub returns : goal.returns
+returns c = rw c.due_at.ensures
