@@ -132,7 +132,7 @@ module _ (from n : ℕ) where
   taken_since rtx_stats s e i = i
   taken_since highestReceived s e i = i
 
-  next_since : {c : Config} {x y : View} {k : Call} → Next c x k y → Since from n x.state → Since from n y.state
+  next_since : {c : Config} {x : View} {k : Call} {y : View} → Next c x k y → Since from n x.state → Since from n y.state
   unfolding after
   next_since stays i = i
   next_since {x = x} {k = k} (moves e) i = taken_since k x.state e i

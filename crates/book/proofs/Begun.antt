@@ -188,11 +188,15 @@ begun-taken (timeoutNack now) same l i = i
 begun-taken rtx_stats same l i = i
 begun-taken highestReceived same l i = i
 
+begun_next : {c : Config} {x : View} {k : Call} {y : View} → Ran c x → Begun x.book.span x.state.queue.last → Next c x k y → Begun y.book.span y.state.queue.last
+unfolding Begun after
+begun_next r b stays = b
+begun_next {k = k} r b (moves e) = let i = kept r in begun-taken k i.inv.same i.sound.lists_in b
+
 begun : {c : Config} {x : View} → Ran c x → Begun x.book.span x.state.queue.last
-unfolding opened empty Begun after
+unfolding opened empty Begun
 begun (opening v) = tt
-begun (further r stays) = begun r
-begun (further {k = k} r (moves e)) = let i = kept r in begun-taken k i.inv.same i.sound.lists_in (begun r)
+begun (further r n) = begun_next r (begun r) n
 
 -- ---- the theorem
 

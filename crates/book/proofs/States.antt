@@ -105,7 +105,7 @@ pub record Kept (c : Config) (x : View) : Type 0 where
   pub sound : Sound x.state
   pub inv : Inv c x.state x.book x.returned
 
-kept_next : {c : Config} {x y : View} {k : Call} → Kept c x → Next c x k y → Kept c y
+kept_next : {c : Config} {x : View} {k : Call} {y : View} → Kept c x → Next c x k y → Kept c y
 unfolding after
 kept_next r stays = r
 kept_next {x = x} {k = k} r (moves e) = record { sound = taken-sound k x.state r.sound e; inv = inv_taken k r.sound.lists_in r.inv }
@@ -131,7 +131,7 @@ holds {c} {x} r =
       missing_ascends = subst (λ (l : List Gap). T (ascends (gap_numbers l))) i.same.gaps (ascends_of_rising _ _ r.sound.lists_in.gaps_rise);
     }
 
-step : {c : Config} {x y : View} {k : Call} → Kept c x → Next c x k y → StepTo c x k y
+step : {c : Config} {x : View} {k : Call} {y : View} → Kept c x → Next c x k y → StepTo c x k y
 unfolding after
 step {x = x} r stays = record { newly = []; lost = sym (append-nil x.book.lost); counted = omega arith; forgets = inl refl }
 step {c} {x} {k = k} r (moves e) =

@@ -1,0 +1,8 @@
+-- `read`: an entry is made of its four words.
+use mathlib.Core.Path.{◌∙◌}
+use Rattle.entries.proofs.Laws.{entry-words}
+use borrow.Author.Rules.{rules}
+use Rattle.entries.proofs.read.Goals as goal
+
+pub returns : goal.returns
+returns c = λ p. entry-words c.args.words.now c.args.i p ∙ rw c.arrival_of-arrival.ensures

@@ -1,0 +1,18 @@
+-- `count_once`: it is the count of the gaps from place i on.
+use mathlib.Core.Path.{◌≡◌, sym, ap, ◌∙◌}
+use Prim.Native.Nat.{ℕ, ◌+◌, ◌-◌, ◌≤◌}
+use native.Mathlib.Omega.{arith}
+use lib.ListN.{length, drop}
+use Rattle.model.specs.Lists.{keep}
+use Rattle.model.specs.Storage.{gaps_of}
+use Rattle.packet_gaps.specs.Gaps.{gap}
+use Rattle.model.specs.Rules.{once}
+use Rattle.lost_nacked.proofs.Laws.{once_more, once_skip, once-end}
+use borrow.Author.Rules.{rules}
+use Rattle.lost_nacked.proofs.count_once.Given as goal
+
+abbrev pub invariant-loop-i : goal.invariant-loop-i
+invariant-loop-i l = (l.count ≡ length (keep once (drop l.i (gaps_of l.gaps l.lost)))) × (l.i ≤ l.lost) × (l.count + l.i ≤ l.lost)
+
+abbrev pub decreases-loop-i : goal.decreases-loop-i
+decreases-loop-i l = l.i

@@ -1,0 +1,6 @@
+-- `dropped`: the struct anew is the definition's.
+use borrow.Author.Rules.{rules}
+use Rattle.session.proofs.push.dropped.Goals as goal
+
+pub returns : goal.returns
+returns c = rw (c.heard-next.ensures, c.count_dropped-counters.ensures)

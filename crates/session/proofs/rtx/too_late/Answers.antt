@@ -1,0 +1,6 @@
+-- `too_late`: the struct anew is the definition's.
+use borrow.Author.Rules.{rules}
+use Rattle.session.proofs.rtx.too_late.Goals as goal
+
+pub returns : goal.returns
+returns c = cc
