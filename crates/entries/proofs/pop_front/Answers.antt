@@ -26,10 +26,4 @@ remove-requires-2 c = omega (arith, c.requires.entries_in.places)
 pub returns : goal.returns
 unfolding payload_out
 returns c = let k = c.requires.entries_in in
-    let f = front_is c.args.words.now c.args.bytes.now c.args.n k c.requires.n_nonzero.0 c.read-e.result c.read-e.ensures in (
-      f,
-      (
-        c.remove.ensures ∙ words_dropped c.args.words.now c.args.bytes.now c.args.n k c.requires.n_nonzero.0,
-        (c.remove-2.ensures ∙ bytes_dropped c.args.words.now c.args.bytes.now c.args.n k c.requires.n_nonzero.0, (c.copy_out.ensures ∙ ap (λ (l : List Entry). over (payload_out l) c.args.out.now) (sym f), front_fits c.args.words.now c.args.bytes.now c.args.n k c.requires.n_nonzero.0 c.read-e.result c.read-e.ensures)),
-      ),
-    )
+    let f = front_is c.args.words.now c.args.bytes.now c.args.n k c.requires.n_nonzero.0 c.read-e.result c.read-e.ensures in record { n_value = f; words_after = c.remove.ensures ∙ words_dropped c.args.words.now c.args.bytes.now c.args.n k c.requires.n_nonzero.0; bytes_after = c.remove-2.ensures ∙ bytes_dropped c.args.words.now c.args.bytes.now c.args.n k c.requires.n_nonzero.0; out_after = c.copy_out.ensures ∙ ap (λ (l : List Entry). over (payload_out l) c.args.out.now) (sym f); size_bound = front_fits c.args.words.now c.args.bytes.now c.args.n k c.requires.n_nonzero.0 c.read-e.result c.read-e.ensures }

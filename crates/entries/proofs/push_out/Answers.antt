@@ -39,10 +39,4 @@ pub returns : goal.returns
 unfolding payload_bytes_of
 returns c = let w : List _ = c.args.words.now in
     let row = row_words c.args.e c.args.payload.now c.requires.incoming _ _ c.arrival_word-arrival.ensures c.size_word-last.ensures in
-    let h : 0 < c.rank_of-k.result = omega arith in (
-      first_out c.args.words.now c.args.bytes.now c.args.n c.rank_of-k.result (entry c.args.e c.args.payload.now) c.rank_of-k.ensures c.requires.entries_in h,
-      (
-        c.replace_first.ensures ∙ ap (λ (q : List _). drop 4 (inserted (4 * c.rank_of-k.result) q w)) row ∙ words_replaced c.args.words.now c.args.bytes.now c.args.n c.rank_of-k.result (entry c.args.e c.args.payload.now) c.rank_of-k.ensures c.requires.entries_in h,
-        c.replace_first_place.ensures ∙ bytes_replaced c.args.words.now c.args.bytes.now c.args.n c.rank_of-k.result (entry c.args.e c.args.payload.now) c.rank_of-k.ensures c.requires.entries_in h (row-place c.args.e c.args.payload.now c.requires.incoming),
-      ),
-    )
+    let h : 0 < c.rank_of-k.result = omega arith in record { result_value = first_out c.args.words.now c.args.bytes.now c.args.n c.rank_of-k.result (entry c.args.e c.args.payload.now) c.rank_of-k.ensures c.requires.entries_in h; words_after = c.replace_first.ensures ∙ ap (λ (q : List _). drop 4 (inserted (4 * c.rank_of-k.result) q w)) row ∙ words_replaced c.args.words.now c.args.bytes.now c.args.n c.rank_of-k.result (entry c.args.e c.args.payload.now) c.rank_of-k.ensures c.requires.entries_in h; bytes_after = c.replace_first_place.ensures ∙ bytes_replaced c.args.words.now c.args.bytes.now c.args.n c.rank_of-k.result (entry c.args.e c.args.payload.now) c.rank_of-k.ensures c.requires.entries_in h (row-place c.args.e c.args.payload.now c.requires.incoming) }

@@ -19,12 +19,10 @@ max_timestamp-limit-requires c =
 
 pub returns-in-None : goal.returns-in-None
 unfolding ready_in
-returns-in-None c =
-    let m : c.args.q.last ≡ None = c.in-None.is in
+returns-in-None c = λ sorted. let m : c.args.q.last ≡ None = c.in-None.is in
     rw m
 
 pub returns-in-Some : goal.returns-in-Some
 unfolding ready_in
-returns-in-Some c =
-    let m : c.args.q.last ≡ Some c.in-Some.r = c.in-Some.is in
+returns-in-Some c = λ sorted. let m : c.args.q.last ≡ Some c.in-Some.r = c.in-Some.is in
     rw m (c.reaches.ensures ∙ rw c.max_timestamp-limit.ensures)
