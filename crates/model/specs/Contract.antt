@@ -1,6 +1,6 @@
 -- The equations that are the contracts of the opening and of the calls; `Made` (crate `book`) takes the same ones.
 use Rattle.std.specs.Prelude.{◌≡◌, List, ℕ}
-use Rattle.std.specs.Borrow.{Bor}
+use Rattle.std.specs.Borrow.{MutBor}
 use denote.Triple.Both.{Both}
 use Rattle.model.specs.declared.Config.{Config}
 use Rattle.model.specs.declared.Session.{Session}
@@ -17,7 +17,7 @@ stored s entries payloads gaps remembered = record { session = s; storage = stor
 
 -- a slice that is lent to a function: on entry and at exit
 abbrev pub Lent : Type 0
-Lent = Both (Bor (List ℕ)) (Bor (List ℕ))
+Lent = Both (MutBor (List ℕ)) (MutBor (List ℕ))
 
 module _ (entries payloads gaps remembered : Lent) where
   -- the lent slices as they come, and as they are left
