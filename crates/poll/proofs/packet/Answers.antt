@@ -1,0 +1,9 @@
+-- `packet` meets its contract: field by field.
+use Rattle.model.specs.Calls as Calls
+use Rattle.poll.specs.Answers as Answers
+use borrow.Author.Rules.{rules}
+use Rattle.poll.proofs.packet.Goals as goal
+
+pub returns : goal.returns
+unfolding Calls.packet_of Answers.packet_of
+returns c = λ payload e. rw (c.truncated-sequence_number.ensures, c.truncated-timestamp.ensures, ← c.requires, e)
