@@ -5,8 +5,6 @@ use Rattle.model.specs.Contract.{stored}
 use Rattle.poll.specs.Answers.{poll_answer}
 use Rattle.poll.proofs.Polling.{drains, nothing_out, is_handing, is_lost, is-delay, packet_out}
 use borrow.Author.Rules.{rules}
-use mathlib.Core.Path.{ap}
-use mathlib.Core.Bool.{not}
 use Rattle.poll.proofs.accept.Goals as goal
 
 pub drain-drained-requires : goal.drain-drained-requires
@@ -19,13 +17,13 @@ pub returns-then-not-effect : goal.returns-then-not-effect
 unfolding poll_answer
 returns-then-not-effect c =
     let a = c.args in
-    nothing_out a.instant (stored a.s a.entries.now a.payloads.now a.gaps.now a.remembered.now) c.requires.settled a.effect c.requires.effect_value a.out.now _ _ c.drain-drained.ensures.value c.drain-drained.ensures.gaps_after (not-true _ (ap not c.if-not-effect.true))
+    nothing_out a.instant (stored a.s a.entries.now a.payloads.now a.gaps.now a.remembered.now) c.requires.settled a.effect c.requires.effect_value a.out.now _ _ c.drain-drained.ensures.value c.drain-drained.ensures.gaps_after (not-true _ c.if-not-effect.true)
 
 pub hand_out-requires : goal.hand_out-requires
 hand_out-requires c =
     let a = c.args in
     let m = stored a.s a.entries.now a.payloads.now a.gaps.now a.remembered.now in
-    record { handing = is_handing a.instant m c.requires.settled a.effect c.requires.effect_value a.out.now _ _ c.drain-drained.ensures.value c.drain-drained.ensures.gaps_after (not-false _ (ap not c.if-not-effect.false)); in_bounds = c.requires.in_bounds; lost_value = is_lost a.instant m c.requires.settled a.effect c.requires.effect_value a.out.now _ _ c.drain-drained.ensures.value c.drain-drained.ensures.gaps_after (not-false _ (ap not c.if-not-effect.false)); delay_value = is-delay a.instant m c.requires.settled a.effect c.requires.effect_value a.out.now _ _ c.drain-drained.ensures.value c.drain-drained.ensures.gaps_after (not-false _ (ap not c.if-not-effect.false)) }
+    record { handing = is_handing a.instant m c.requires.settled a.effect c.requires.effect_value a.out.now _ _ c.drain-drained.ensures.value c.drain-drained.ensures.gaps_after (not-false _ c.if-not-effect.false); in_bounds = c.requires.in_bounds; lost_value = is_lost a.instant m c.requires.settled a.effect c.requires.effect_value a.out.now _ _ c.drain-drained.ensures.value c.drain-drained.ensures.gaps_after (not-false _ c.if-not-effect.false); delay_value = is-delay a.instant m c.requires.settled a.effect c.requires.effect_value a.out.now _ _ c.drain-drained.ensures.value c.drain-drained.ensures.gaps_after (not-false _ c.if-not-effect.false) }
 
 pub shape_of-entries : goal.shape_of-entries
 shape_of-entries c = c.entries-1.given
@@ -46,4 +44,4 @@ pub returns : goal.returns
 returns c =
     let a = c.args in
     let o = c.hand_out.ensures in
-    packet_out a.instant (stored a.s a.entries.now a.payloads.now a.gaps.now a.remembered.now) c.requires.settled a.effect c.requires.effect_value a.out.now _ _ c.drain-drained.ensures.value c.drain-drained.ensures.gaps_after (not-false _ (ap not c.if-not-effect.false)) _ _ _ o.leaves o.answer_value o.out_after
+    packet_out a.instant (stored a.s a.entries.now a.payloads.now a.gaps.now a.remembered.now) c.requires.settled a.effect c.requires.effect_value a.out.now _ _ c.drain-drained.ensures.value c.drain-drained.ensures.gaps_after (not-false _ c.if-not-effect.false) _ _ _ o.leaves o.answer_value o.out_after

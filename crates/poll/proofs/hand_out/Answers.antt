@@ -46,9 +46,9 @@ pub overflow_sub-left : goal.overflow_sub-left
 overflow_sub-left c =
     c.requires.handing.some
 
-pub overflow_sub-left : goal.overflow_sub-left
+pub overflow_sub-left-2 : goal.overflow_sub-left-2
 unfolding lost_under
-overflow_sub-left c =
+overflow_sub-left-2 c =
     let below : (let a = c.args in a.lost ≡ length (lost_below_of a.s.queue.config.settings.mode c.pop_front-e.result.number.0 (gaps_of a.gaps.now a.s.gaps))) = let a = c.args in
     c.requires.lost_value ∙ ap (λ (l : List Entry). length (lost_under a.s.queue.config.settings.mode l (gaps_of a.gaps.now a.s.gaps))) c.pop_front-e.ensures.n_value in
     let few : c.args.lost ≤ c.args.s.gaps = let a = c.args in

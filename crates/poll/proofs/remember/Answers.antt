@@ -6,7 +6,7 @@ use borrow.Author.Rules.{rules}
 use Rattle.poll.proofs.remember.Goals as goal
 
 pub returns-then-q : goal.returns-then-q
-returns-then-q c = rw c.if-q.true c.note_lost.ensures
+returns-then-q c = let kept = c.note_lost.ensures in rw c.if-q.true record { value = kept.value; remembered_after = kept.s_after }
 
 pub returns : goal.returns
 unfolding remembered_after

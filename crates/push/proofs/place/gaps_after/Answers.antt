@@ -12,7 +12,7 @@ use Rattle.push.proofs.place.gaps_after.Goals as goal
 
 pub open_between-requires : goal.open_between-requires
 open_between-requires c = let t = near_takes c.args.gaps.now c.args.n c.args.x.0 c.args.place c.requires.takes _ c.in-Near.is in
-    (c.requires.gaps_in, t)
+    record { gaps_in = c.requires.gaps_in; h_lt_x = t.0; h_in_bounds = t.1 }
 
 pub overflow_sub-result : goal.overflow_sub-result
 overflow_sub-result c = let t = near_takes c.args.gaps.now c.args.n c.args.x.0 c.args.place c.requires.takes _ c.in-Near.is in
