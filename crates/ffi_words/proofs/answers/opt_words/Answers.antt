@@ -1,0 +1,12 @@
+-- `opt_words` meets its contract: each arm is a line of the definition.
+use Rattle.ffi_words.specs.Told.{opt_words}
+use borrow.Author.Rules.{rules}
+use Rattle.ffi_words.proofs.answers.opt_words.Goals as goal
+
+pub returns-in-None : goal.returns-in-None
+unfolding opt_words
+returns-in-None c = cc
+
+pub returns-in-Some : goal.returns-in-Some
+unfolding opt_words
+returns-in-Some c = cc

@@ -1,0 +1,8 @@
+-- `rtx_of` meets its contract: field by field.
+use Rattle.ffi_words.specs.Words.{queue_of}
+use borrow.Author.Rules.{rules}
+use Rattle.ffi_words.proofs.rtx_of.Goals as goal
+
+pub returns : goal.returns
+unfolding queue_of
+returns c = cc
