@@ -37,6 +37,7 @@ use Rattle.ffi_words.specs.declared.ConfigWords.{ConfigWords}
 use Rattle.ffi_words.specs.declared.SessionWords.{SessionWords}
 use Rattle.ffi_words.specs.declared.answers.Opened.{Opened}
 use Rattle.ffi_words.specs.declared.answers.Pushed.{Pushed}
+use Rattle.ffi_words.specs.declared.answers.Polled.{Polled}
 use Rattle.ffi_words.specs.declared.answers.PolledNack.{PolledNack}
 use Rattle.ffi_words.specs.declared.answers.PolledWire.{PolledWire}
 use Rattle.ffi_words.specs.declared.figures.Figures.{Figures}
@@ -113,11 +114,16 @@ unfolding stats_words
 stats-number n OptRtxStats.None = refl
 stats-number n (OptRtxStats.Some f) = refl
 
+polled_hears : (now : ℕ) (out : List ℕ) (w : SessionWords) (t : Storage) {u : Storage} {r : Polled} {left : List ℕ} → readable w ≡ true → Gives polled (poll now out) w t r u left
+    → Hears (did (poll now out) (stands_for w t)).answer (heard_in r.refusal r.has_packet) (numbers_in r)
+unfolding told
+polled_hears now out w t readable-w g = rw (value-is polled (poll now out) w t readable-w g) (poll_hears now out (stands_for w t) _)
+
 exported_hears : {w v : SessionWords} {t u : Storage} {k : Call} {h : Heard} {ns : List ℕ} → readable w ≡ true → ExportedCall w t k v u h ns → Hears (did k (stands_for w t)).answer h ns
 unfolding pushed polled_nack polled_wire timeout_told stats_told highest_told answered hear given told
 exported_hears {w} {t = t} r (push g) = gives_hears pushed (λ (p : Pushed). p.refusal) (λ a y. refl) _ (media_hears _ _) w t r g
 exported_hears {w} {t = t} r (push_rtx g) = gives_hears pushed (λ (p : Pushed). p.refusal) (λ a y. refl) _ (λ s. (refl, refl)) w t r g
-exported_hears {w} {t = t} r (polls g) = rw (value-is polled _ w t r g) (poll_hears _ _ (stands_for w t) _)
+exported_hears {w} {t = t} r (polls g) = polled_hears _ _ w t r g
 exported_hears {w} {t = t} r (polls_nack g) = gives_hears polled_nack (λ (p : PolledNack). p.refusal) (λ a y. refl) _ (λ s. numbers-due _) w t r g
 exported_hears {w} {t = t} r (nacks_wire g) = gives_hears polled_wire (λ (p : PolledWire). p.refusal) (λ a y. refl) _ (λ s. (refl, refl)) w t r g
 exported_hears {w} {t = t} r (receive_timeout g) = gives_hears (alone timeout_told) (λ (p : Timeout). p.refusal) (λ a y. refl) _ (λ s. (refl, refl)) w t r g
