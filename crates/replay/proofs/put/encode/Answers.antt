@@ -1,0 +1,11 @@
+-- `encode` is safe and ends: two digits are written in each turn, and there is room for twice as many as bytes.
+use Prim.Native.Nat.{◌*◌, ◌≤◌, ◌-◌}
+use native.Mathlib.Omega.{arith}
+use mathlib.Core.Path.{◌≡◌}
+use lib.ListN.{length, length-set}
+use borrow.Author.Rules.{rules}
+use Rattle.replay.proofs.put.encode.Goals as goal
+
+pub bounds-out-i-in-loop-i : goal.bounds-out-i-in-loop-i
+bounds-out-i-in-loop-i c =
+    omega (arith, length-set c.loop-i.out (2 * c.loop-i.i) c.glyph.result)
