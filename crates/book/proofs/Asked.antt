@@ -1,7 +1,7 @@
 -- A number that a NACK list named is asked for again only after the resend delay, which is at least a millisecond where an estimate stands: its gap
 -- remembers the instant of its last NACK, no call opens it anew, since new gaps lie above the highest number, and the clock never goes back.
-use mathlib.Core.Path.{◌≡◌, refl, sym, ap, ◌∙◌, subst}
-use mathlib.Core.Bool.{Bool, true, false, cond, not}
+use mathlib.Core.Path.{◌≡◌, refl, sym, ◌∙◌, subst}
+use mathlib.Core.Bool.{Bool, not}
 use mathlib.Core.List.{List, [], ◌∷◌, ◌++◌, map, foldl, foldl-append}
 use Prim.Native.Nat.{ℕ, suc, ◌+◌, ◌-◌, ◌≤◌, ◌<◌}
 use native.Mathlib.Omega.{arith}
@@ -12,7 +12,6 @@ use borrow.Author.Tests.{eq-eqb}
 use Rattle.rtp.specs.declared.opt.Opt.{Opt}
 use Rattle.rtp.specs.declared.opt.Opt.TheVariants.{None, Some}
 use Rattle.refusals.proofs.Laws.{or_else-none}
-use Rattle.words.specs.Words.{over}
 use Rattle.rtx_state.specs.declared.RtxRtt.{RtxRtt}
 use Rattle.rtx_state.specs.declared.OptRtt.TheVariants as OptRtt
 use Rattle.rtx_state.specs.RoundTrip.{nack_resend_delay}
@@ -21,15 +20,14 @@ use Rattle.config.specs.declared.Settings.{Settings}
 use Rattle.config.specs.declared.NackTimings.{NackTimings}
 use Rattle.config.specs.Timings.{resend_delay_of, nack_timings}
 use Rattle.model.specs.declared.Config.{Config}
-use Rattle.model.specs.declared.LastReceived.{LastReceived}
 use Rattle.model.specs.Lists.{keep, some?}
 use Rattle.model.specs.Records.{Entry, Gap, State, highest_of}
-use Rattle.model.specs.Rules.{is, below, without, Place, waits, between, fresh, gaps_from, gaps_after, timings_in, estimate_in, due_at, due, nacked, nacked_if_due, truncated, overfull, not_given_up}
-use Rattle.model.specs.Push.{insert_sorted, media_place, heard, last_after, after_queued, after_dropped, front_out_of, within_depth, media_entry_of, after_placed, after_media, Fate, tooLate, recovered, redundant, repair_entry, repair_fate, after_fate, after_repair}
+use Rattle.model.specs.Rules.{is, below, without, Place, waits, between, fresh, gaps_from, gaps_after, timings_in, estimate_in, due_at, due, nacked, nacked_if_due, overfull, not_given_up}
+use Rattle.model.specs.Push.{media_place, heard, last_after, after_queued, after_dropped, front_out_of, within_depth, media_entry_of, after_placed, after_media, Fate, tooLate, recovered, redundant, repair_entry, repair_fate, after_fate, after_repair}
 use Rattle.model.specs.Poll.{drained, lose, going_out, hand_out, after_poll, due_gaps, nack_numbers, nack_entries_of, nack_all, after_poll_nack, timings_of}
-use Rattle.model.specs.Storage.{Storage, Stored, parse}
+use Rattle.model.specs.Storage.{parse}
 use Rattle.model.specs.Calls.{Call, media, repair, poll, pollNack, nack_wire, timeout_receive, timeoutNack, rtx_stats, highestReceived, taken, output_after}
-use Rattle.model.specs.Table.{call_refusal, media_refusal, repair_refusal, poll_refusal, poll_nack_refusal, refusal, opening_refusal}
+use Rattle.model.specs.Table.{call_refusal, media_refusal, repair_refusal, poll_refusal, poll_nack_refusal, refusal}
 use Rattle.model.specs.Did.{did, accepted}
 use Rattle.model.proofs.Lists.{by_cases, by_or, no_eqb, Each, none, more, each_imp, each_both, each_append, each_keep, each_kept, each_map, each_following, Rising, rising_rest, rising_first, holds_of_some}
 use Rattle.model.proofs.Sound.{Reached, Under, Sound}
@@ -37,8 +35,8 @@ use Rattle.model.proofs.SoundQueue.{clock_of}
 use Rattle.model.proofs.SoundPush.{Stands, is-first, is_near, is_far, is-gap, is-other, waiting-stands}
 use Rattle.model.proofs.SoundPoll.{part_not-given-up, rising_not-given-up, part_left}
 use Rattle.book.specs.Book.{Book}
-use Rattle.book.specs.States.{View, after, Next, stays, moves, Ran}
-use Rattle.book.specs.Claim.{Run, start, call, calls, view_of}
+use Rattle.book.specs.States.{View, after, Next, stays, moves}
+use Rattle.book.specs.Claim.{Run, start, call, calls}
 use Rattle.book.specs.Nacks.{named_at, Measured, measured, Asks, in_a_list, on_the_wire, NacksApart}
 use Rattle.book.proofs.Same.{Same, by-same}
 use Rattle.book.proofs.States.{kept}

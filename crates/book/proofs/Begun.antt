@@ -3,14 +3,14 @@
 use mathlib.Core.Path.{◌≡◌, refl, sym, ap, ◌∙◌, subst}
 use mathlib.Core.Bool.{Bool, true, false, cond, not, ◌&&◌}
 use mathlib.Core.List.{List, [], ◌∷◌}
-use Prim.Native.Nat.{ℕ, suc, ◌+◌, ◌-◌, ◌*◌, ◌^◌, ◌≤◌, ◌<◌}
+use Prim.Native.Nat.{ℕ, ◌+◌, ◌-◌, ◌*◌, ◌^◌, ◌≤◌, ◌<◌}
 use native.Mathlib.Omega.{arith}
-use lib.Dec.{T, ltb, leb, leb→le, lt→ltb, not_T, lit≤, lit<}
+use lib.Dec.{T, ltb, leb, leb→le, lt→ltb, not_T, lit≤}
 use lib.Arith.{le→nltb}
 use lib.Ieee.Bits.{cond_no, is_true}
 use lib.Ieee.Fits.{and_l, and_r}
 use lib.ListN.{length}
-use Rattle.rtp.specs.Numbers.{low_bits, apart, guessed}
+use Rattle.rtp.specs.Numbers.{low_bits, apart}
 use Rattle.rtp.specs.declared.opt.Opt.{Opt}
 use Rattle.rtp.specs.declared.opt.Opt.TheVariants.{None, Some}
 use Rattle.rtp.proofs.Laws.{extends}
@@ -20,21 +20,19 @@ use Rattle.rtp_packet.specs.Original.{original_number}
 use Rattle.config.specs.declared.Settings.{Settings}
 use Rattle.model.specs.declared.Config.{Config}
 use Rattle.model.specs.declared.LastReceived.{LastReceived}
-use Rattle.model.specs.declared.LastReceived.TheVariants as LastReceived
 use Rattle.model.specs.declared.Queue.{Queue}
 use Rattle.model.specs.Lists.{some?}
-use Rattle.model.specs.Records.{Entry, Gap, State, highest_of, last_timestamp_of, new_state, new_queue}
+use Rattle.model.specs.Records.{Entry, Gap, State, highest_of, last_timestamp_of}
 use Rattle.model.specs.Rules.{extended, is, max_gap_size, Place, first, near, far, fills, other, place_of, waits, overfull}
 use Rattle.model.specs.Push as P
 use Rattle.model.specs.Push.{extended_number, extended_timestamp, media_entry_of, media_place, heard, last_after, after_queued, after_dropped, front_out_of, after_placed, after_media, Fate, tooLate, recovered, redundant, repair_entry, repair_fate, after_fate, after_repair}
 use Rattle.model.specs.Poll.{drained, lose, going_out, hand_out, after_poll, nack_all, after_poll_nack}
 use Rattle.model.specs.Valid.{last_sound}
-use Rattle.model.specs.Storage.{Storage, Stored, parse}
+use Rattle.model.specs.Storage.{Storage, parse}
 use Rattle.model.specs.Calls.{Call, media, repair, poll, pollNack, nack_wire, timeout_receive, timeoutNack, rtx_stats, highestReceived, Answer, queued, dropped, taken, placed_answer, answered}
-use Rattle.model.specs.Table.{refusal, opening_refusal}
 use Rattle.model.specs.Did.{did}
 use Rattle.model.proofs.Lists.{by_cases}
-use Rattle.model.proofs.Sound.{ListsOf, Sound}
+use Rattle.model.proofs.Sound.{ListsOf}
 use Rattle.model.proofs.SoundPush.{Stands, is-first, is_near, is_far, is-gap, is-other, stands}
 use Rattle.book.specs.Book as B
 use Rattle.book.specs.Book.{Heard, accepted, Span, none, from_to, Book, empty, span_after, arrive, push_out_of, on_media, recover, not_missing, on_repair, give_up, take_lowest, on_poll, read, enter, expected, all_of}
@@ -43,7 +41,7 @@ use Rattle.book.specs.Claim.{Run, call, calls, view_of}
 use Rattle.book.specs.First.{Comes, FirstCycle}
 use Rattle.book.proofs.Count.{count, same_no}
 use Rattle.book.proofs.Gaps.{some-counted}
-use Rattle.book.proofs.Tally.{total, Tally, run_of_one}
+use Rattle.book.proofs.Tally.{total, run_of_one}
 use Rattle.book.proofs.Past.{same_place}
 use Rattle.book.proofs.Same.{Same, hear_media, hear_poll, hear-nack}
 use Rattle.book.proofs.States.{Kept, kept}

@@ -17,7 +17,6 @@ use Rattle.config.specs.declared.RtpInboundQueueMode.{RtpInboundQueueMode}
 use Rattle.model.specs.declared.Config.{Config}
 use Rattle.model.specs.declared.Queue.{Queue}
 use Rattle.model.specs.declared.LastReceived.{LastReceived}
-use Rattle.model.specs.declared.LastReceived.TheVariants as LastReceived
 use Rattle.model.specs.Lists.{some?}
 use Rattle.rtp.specs.Opt.{number_of}
 use Rattle.model.specs.Records.{Entry, Gap, Remembered, State, entry_numbers, highest_of}

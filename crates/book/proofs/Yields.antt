@@ -2,7 +2,7 @@
 -- has the book's estimate, so what is shown of it keeps the bound that `rtx_state` proves of every list of samples.
 use mathlib.Core.Path.{◌≡◌, refl, sym, ap, ◌∙◌, subst}
 use mathlib.Core.Bool.{Bool, true, false, cond}
-use mathlib.Core.List.{List, [], ◌∷◌, ◌++◌, foldl, foldl-append}
+use mathlib.Core.List.{List, [], ◌∷◌, foldl, foldl-append}
 use Prim.Native.Nat.{ℕ}
 use native.Mathlib.Omega.{arith}
 use lib.Dec.{eqb}
@@ -12,25 +12,21 @@ use Rattle.rtp.specs.declared.opt.Opt.TheVariants.{None, Some}
 use Rattle.rtp_packet.specs.Header.{sequence_number, payload_of}
 use Rattle.rtp_packet.specs.Original.{original_number}
 use Rattle.rtx_state.specs.declared.OptRtt.{OptRtt}
-use Rattle.rtx_state.specs.declared.OptRtt.TheVariants as OptRtt
 use Rattle.rtx_state.specs.RoundTrip.{sampled_rtt, srtt_of}
 use Rattle.rtx_state.specs.Repair as Rtx
 use Rattle.rtx_state.specs.Drift.{Tracks}
 use Rattle.rtx_state.proofs.Smoothed.{drift}
 use Rattle.stats.specs.declared.RtpInboundRtxStats.{RtpInboundRtxStats}
 use Rattle.stats.specs.declared.OptRtxStats.{OptRtxStats}
-use Rattle.stats.specs.declared.OptRtxStats.TheVariants as OptRtxStats
-use Rattle.config.specs.declared.Settings.{Settings}
 use Rattle.model.specs.declared.Config.{Config}
 use Rattle.model.specs.declared.Queue.{Queue}
 use Rattle.model.specs.Lists.{some?}
 use Rattle.model.specs.Rules.{is, Place, place_of, waits, overfull, gap_nacked_at, lost_nacked_at, sampled_at}
 use Rattle.model.specs.Poll.{repair_figures_of}
-use Rattle.model.specs.Storage.{Storage, Stored, parse}
-use Rattle.model.specs.Calls.{Call, media, repair, poll, pollNack, nack_wire, timeout_receive, timeoutNack, rtx_stats, highestReceived, Answer, stats, answered}
-use Rattle.model.specs.Calls as Calls
-use Rattle.model.specs.Table.{refusal, opening_refusal}
-use Rattle.model.specs.Did.{Done, did, accepted, turned_back}
+use Rattle.model.specs.Storage.{Stored, parse}
+use Rattle.model.specs.Calls.{Call, media, repair, poll, pollNack, nack_wire, timeout_receive, timeoutNack, rtx_stats, highestReceived, stats, answered}
+use Rattle.model.specs.Table.{refusal}
+use Rattle.model.specs.Did.{did, accepted, turned_back}
 use Rattle.model.proofs.Lists.{by_cases}
 use Rattle.book.specs.Book as B
 use Rattle.book.specs.Book.{Heard, Book, empty, arrive, push_out_of, within_depth, on_media, recover, not_missing, on_repair, give_up, take_lowest, on_poll, nack_all, read, enter}

@@ -6,7 +6,6 @@ use Rattle.rtp.specs.declared.opt.Opt.TheVariants.{None, Some}
 use Rattle.rtp_packet.specs.Header.{sequence_number, payload_of}
 use Rattle.rtp_packet.specs.Original.{original_number}
 use Rattle.rtx_state.specs.declared.OptRtt.{OptRtt}
-use Rattle.rtx_state.specs.declared.OptRtt.TheVariants as OptRtt
 use Rattle.config.specs.declared.Settings.{Settings}
 use Rattle.model.specs.declared.Config.{Config}
 use Rattle.model.specs.Lists.{following, some?}

@@ -11,7 +11,7 @@ use Rattle.model.specs.Calls.{Call, media, queued, dropped}
 use Rattle.model.specs.Table.{refusal, opening_refusal}
 use Rattle.model.specs.Did.{did}
 use Rattle.book.specs.Book.{none, from_to}
-use Rattle.book.specs.Claim.{Run, call, calls}
+use Rattle.book.specs.Claim.{call, calls}
 
 -- After the calls ks on a newly opened session a media datagram d comes that no check catches.
 pub record Comes (c : Config) (t : Storage) (ks : List Call) (now : ℕ) (d : List ℕ) : Type 0 where

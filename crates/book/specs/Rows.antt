@@ -4,7 +4,6 @@ use Rattle.std.specs.Prelude.{◌≡◌, Bool, true, false, cond, ℕ, ◌+◌, 
 use mathlib.Core.List.{List, [], ◌∷◌, map, foldl}
 use Rattle.rtp.specs.declared.opt.Opt.TheVariants as Opt
 use Rattle.rtx_state.specs.declared.OptRtt.{OptRtt}
-use Rattle.rtx_state.specs.declared.OptRtt.TheVariants as OptRtt
 use Rattle.rtx_state.specs.RoundTrip.{sampled_rtt}
 use Rattle.rtx_state.specs.Drift.{recurrence}
 use Rattle.config.specs.declared.RtpInboundStreamSortedQueueMode.TheVariants.{Fixed}

@@ -1,5 +1,5 @@
 -- The delay of a dynamic queue: what repairs ask for fits a word, and the delay is from min to max and grows with the loss.
-use mathlib.Core.Path.{◌≡◌, refl, sym, ap, subst}
+use mathlib.Core.Path.{◌≡◌, refl, subst}
 use mathlib.Core.Bool.{Bool, true, false, cond, ◌&&◌}
 use Prim.Native.Nat.{ℕ, ◌*◌, ◌^◌, ◌≤◌, ◌<◌}
 use native.Mathlib.Nat.{le_refl, le_trans, mul-le-mul, mul-le-mul_right}
@@ -24,7 +24,7 @@ use Rattle.config.specs.declared.RtpInboundQueueMode.TheVariants.{Passthrough, S
 use Rattle.config.specs.declared.Settings.{Settings}
 use Rattle.config.specs.Valid.{longest, most_attempts, dynamic_valid, mode_valid, settings_valid}
 use Rattle.config.specs.Delay.{clamp, jitter_delay, nack_delay, with_repairs, dynamic_delay, delay_in, target_delay}
-use Rattle.config.proofs.Facts.{Usable, usable}
+use Rattle.config.proofs.Facts.{usable}
 
 -- ---- what repairs ask for fits a word: a resend delay is below 2 ^ 54, and there are at most four attempts
 pub product_lt : (r n : ℕ) → r < 2 ^ 54 → n ≤ 4 → r * n < 2 ^ 57

@@ -1,13 +1,13 @@
 -- A float cut toward zero by its bits. x is lead * 2 ^ (field - 1) of the smallest units, 2 ^ -1074; below 2 ^ 52 in size its field is at most 1074, and
 -- 1074 - (field - 1) digits stand after the point.
-use mathlib.Core.Path.{◌≡◌, refl, sym, ap, ◌∙◌, subst}
+use mathlib.Core.Path.{◌≡◌, refl, sym, ap, ◌∙◌}
 use mathlib.Core.Bool.{Bool, true, false, cond, not}
-use Prim.Native.Nat.{ℕ, zero, suc, ◌+◌, ◌-◌, ◌*◌, ◌/◌, ◌%◌, ◌^◌, ◌≤◌, ◌<◌, min}
+use Prim.Native.Nat.{ℕ, ◌+◌, ◌-◌, ◌*◌, ◌/◌, ◌%◌, ◌^◌, ◌≤◌, ◌<◌, min}
 use native.Mathlib.Nat.{le_of_eq, lt_of_lt_of_le, lt_of_le_of_lt, lt_irrefl, mul_comm, mul_right_comm, mul-le-mul, mul-lt-mul_of_pos_right, lt_of_mul-lt-mul_right, mod-lt, div-eq_of_lt, div-lt_iff_lt-mul, mul-div-mul_right}
 use native.Mathlib.Omega.{arith}
-use borrow.Author.Tests.{lt-ltb, le-ltb, ltb-true, ltb-false}
+use borrow.Author.Tests.{ltb-true, ltb-false}
 use lib.Dec.{T, leb, ltb, leb→le, nleb→lt}
-use lib.IntN.{ℤ, pos, neg_ℤ}
+use lib.IntN.{pos, neg_ℤ}
 use lib.Pow.{pow_pos, pow-add, pow_mono, shl_lt}
 use lib.Ieee.{Float, nan, inf, fin, binary64, to_bits, fits, to_signed, up, down}
 use lib.Ieee.Scale.{finite}

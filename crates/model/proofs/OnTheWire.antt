@@ -26,7 +26,7 @@ use Rattle.model.specs.Calls.{Call, refused, wire, pollNack, nack_wire, nack_ans
 use Rattle.model.specs.Table.{refusal, call_refusal, output_refusal, poll_nack_refusal}
 use Rattle.model.specs.Did.{did, accepted, turned_back}
 use Rattle.model.specs.OnTheWire.{SameRefusal, SameEffect, ReadsBack, OnTheWire}
-use Rattle.model.proofs.Lists.{Rising, rising_keep, ascends_of_rising}
+use Rattle.model.proofs.Lists.{rising_keep, ascends_of_rising}
 use Rattle.model.proofs.Sound.{Sound}
 use Rattle.model.proofs.SoundPoll.{rising_not-given-up}
 use Rattle.model.proofs.SoundCalls.{accepted-sound, did-taken}

@@ -7,7 +7,6 @@ use Rattle.nack_pairs.specs.Wire as Wire
 use Rattle.rtx_state.specs.Repair.{rtx_stats}
 use Rattle.rtx_state.specs.declared.OptRtt.{OptRtt}
 use Rattle.stats.specs.declared.OptRtxStats.{OptRtxStats}
-use Rattle.stats.specs.declared.OptRtxStats.TheVariants as OptRtxStats
 use Rattle.packet_loss.specs.Loss.{record_lost}
 use Rattle.config.specs.declared.RtpInboundQueueMode.{RtpInboundQueueMode}
 use Rattle.config.specs.declared.RtpInboundQueueMode.TheVariants.{Passthrough, SortedQueue}
@@ -16,7 +15,6 @@ use Rattle.config.specs.Delay.{target_delay}
 use Rattle.handout.specs.Limit.{max_timestamp}
 use Rattle.handout.specs.Timeout.{timeout_receive}
 use Rattle.model.specs.declared.LastReceived.{LastReceived}
-use Rattle.model.specs.declared.LastReceived.TheVariants as LastReceived
 use Rattle.model.specs.declared.Counters.{Counters}
 use Rattle.model.specs.declared.Queue.{Queue}
 use Rattle.model.specs.Lists.{keep}

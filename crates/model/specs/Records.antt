@@ -1,7 +1,6 @@
 -- 01, "The records": entries, gaps and remembered numbers as plain lists beside the queue's own numbers.
 use Rattle.std.specs.Prelude.{Bool, List, [], map, ℕ}
 use Rattle.rtp.specs.declared.opt.Opt.{Opt}
-use Rattle.rtp.specs.declared.opt.Opt.TheVariants as Opt
 use Rattle.rtp.specs.declared.opt.OptNumber.TheVariants as OptNumber
 use Rattle.rtx_state.specs.declared.RtxState.{RtxState}
 use Rattle.rtx_state.specs.Repair.{new_rtx_state}
@@ -11,7 +10,6 @@ use Rattle.packet_loss.specs.declared.PacketLoss.{PacketLoss}
 use Rattle.packet_loss.specs.Loss.{new_loss}
 use Rattle.model.specs.declared.Config.{Config}
 use Rattle.model.specs.declared.LastReceived.{LastReceived}
-use Rattle.model.specs.declared.LastReceived.TheVariants as LastReceived
 use Rattle.model.specs.declared.Counters.{Counters}
 use Rattle.model.specs.declared.Queue.{Queue}
 

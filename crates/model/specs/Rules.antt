@@ -4,7 +4,6 @@ use Rattle.rtp.specs.Numbers.{low_bits, guessed}
 use Rattle.rtp.specs.declared.opt.Opt.{Opt}
 use Rattle.rtp.specs.declared.opt.Opt.TheVariants.{None, Some}
 use Rattle.rtx_state.specs.declared.OptRtt.{OptRtt}
-use Rattle.rtx_state.specs.declared.OptRtt.TheVariants as OptRtt
 use Rattle.rtx_state.specs.RoundTrip.{sampled_rtt}
 use Rattle.config.specs.declared.RtpInboundQueueMode.{RtpInboundQueueMode}
 use Rattle.config.specs.declared.RtpInboundQueueMode.TheVariants.{Passthrough, SortedQueue}

@@ -11,7 +11,6 @@ use Rattle.rtp_packet.specs.Original.{original_refusal}
 use Rattle.rtx_state.specs.declared.RtxState.{RtxState}
 use Rattle.model.specs.declared.Config.{Config}
 use Rattle.model.specs.declared.LastReceived.{LastReceived}
-use Rattle.model.specs.declared.LastReceived.TheVariants as LastReceived
 use Rattle.model.specs.declared.Counters.{Counters}
 use Rattle.model.specs.declared.Queue.{Queue}
 use Rattle.model.specs.Lists.{some?}

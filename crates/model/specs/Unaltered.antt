@@ -1,5 +1,5 @@
 -- Demand 1: "A refused call alters no byte of the session or of any lent buffer." Said without `turned_back`, so that it stands by itself.
-use Rattle.std.specs.Prelude.{◌≡◌, ℕ}
+use Rattle.std.specs.Prelude.{◌≡◌}
 use Rattle.model.specs.declared.Config.{Config}
 use Rattle.model.specs.Storage.{Storage, Stored}
 use Rattle.model.specs.Calls as Calls

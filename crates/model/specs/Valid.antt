@@ -10,7 +10,6 @@ use Rattle.jitter.specs.Interarrival.{jitter_in_range}
 use Rattle.packet_loss.specs.Loss.{loss_in_range}
 use Rattle.config.specs.declared.Settings.{Settings}
 use Rattle.model.specs.declared.LastReceived.{LastReceived}
-use Rattle.model.specs.declared.LastReceived.TheVariants as LastReceived
 use Rattle.model.specs.declared.Counters.{Counters}
 use Rattle.model.specs.declared.Queue.{Queue}
 use Rattle.model.specs.Lists.{some?, every?}

@@ -3,19 +3,17 @@ use mathlib.Core.Path.{◌≡◌, refl, sym, ap, ◌∙◌}
 use mathlib.Core.Bool.{Bool, true, false, cond}
 use mathlib.Core.List.{List, [], ◌∷◌, ◌++◌, append_assoc, append-nil}
 use Prim.Native.Nat.{ℕ, zero, suc, ◌+◌, ◌-◌, ◌*◌, ◌%◌, ◌^◌, ◌≤◌, ◌<◌}
-use native.Mathlib.Numerals.{add-one}
 use native.Mathlib.Omega.{arith}
-use lib.Dec.{ltb, eqb}
+use lib.Dec.{eqb}
 use lib.Pow.{pow_mono, shl_exact}
-use lib.ListN.{length, take, drop, get_or, length-append}
-use lib.Seq.{take_at, drop-drop, get_or-drop}
+use lib.ListN.{length, take, length-append}
+use lib.Seq.{take_at}
 use borrow.Author.Tests.{le-leb, lt-leb, ne_eqb, eq-eqb, eqb-false}
 use Rattle.words.specs.Words.{over, written}
-use Rattle.words.specs.Order.{leads, ascends}
+use Rattle.words.specs.Order.{ascends}
 use Rattle.words.proofs.Over.{over-over, take-over, length_over}
 use Rattle.words.proofs.Moves.{written_next}
-use Rattle.words.proofs.Ordered.{and_left, and_right}
-use Rattle.nack_pairs.specs.Pairs.{Pair, pair, bit, within, grown, shut, from, pairs, put_if}
+use Rattle.nack_pairs.specs.Pairs.{Pair, pair, bit, within, grown, shut, from, pairs}
 use Rattle.nack_pairs.specs.Naming.{opened, begun, named_next, Follows}
 use Rattle.nack_pairs.specs.Wire.{bytes_of, wire, entries}
 use Rattle.nack_pairs.specs.declared.Naming.{Naming}

@@ -23,7 +23,6 @@ use Rattle.config.proofs.Facts.{resend-lt}
 use Rattle.model.specs.Lists.{leading, trailing, every?}
 use Rattle.model.specs.Records.{Gap, gap_numbers}
 use Rattle.model.specs.Rules.{gaps_below, gaps_from}
-use Rattle.model.specs.Push.{passed}
 use Rattle.model.specs.Valid.{Bounds, under, not_passed, gap_sound}
 use Rattle.model.specs.Storage.{gap_words, gap_words_of, gap_of_words, gaps_of}
 use Rattle.model.proofs.Laid.{gaps-held, gap_coded}

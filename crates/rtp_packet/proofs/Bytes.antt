@@ -2,9 +2,9 @@
 use mathlib.Core.Path.{◌≡◌, refl, sym, ap, ◌∙◌}
 use mathlib.Core.List.{List, [], ◌∷◌, ◌++◌, append_assoc}
 use Prim.Native.Nat.{ℕ, zero, suc, ◌+◌, ◌*◌, ◌/◌, ◌%◌, ◌^◌, ◌≤◌, ◌<◌}
-use native.Mathlib.Nat.{pow-suc, zero-add, add_assoc}
+use native.Mathlib.Nat.{pow-suc, add_assoc}
 use native.Mathlib.Omega.{arith}
-use lib.ListN.{length, get_or, take, drop, length-append, length-drop, get_or-append, take-append-drop}
+use lib.ListN.{length, take, drop, length-append, length-drop, get_or-append, take-append-drop}
 use lib.Seq.{get_or-append-add, get_or_at, get_or-drop, take-suc, take-add, drop-drop}
 use Rattle.rtp_packet.specs.Header.{byte, big_endian}
 use Rattle.rtp_packet.specs.Layout.{bytes_of, word_bytes, words_at, EachBelow}

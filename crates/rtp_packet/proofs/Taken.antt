@@ -2,15 +2,15 @@
 use mathlib.Core.Path.{◌≡◌, refl, sym, ap, ◌∙◌}
 use mathlib.Core.Bool.{Bool, true, false, cond, ◌||◌}
 use mathlib.Core.List.{List, [], ◌∷◌, ◌++◌}
-use Prim.Native.Nat.{ℕ, zero, suc, ◌+◌, ◌-◌, ◌*◌, ◌/◌, ◌%◌, ◌^◌, ◌≤◌, ◌<◌}
+use Prim.Native.Nat.{ℕ, suc, ◌+◌, ◌-◌, ◌*◌, ◌/◌, ◌%◌, ◌^◌, ◌≤◌, ◌<◌}
 use native.Mathlib.Omega.{arith}
 use lib.Dec.{eqb, leb, ltb}
-use lib.ListN.{length, get_or, take, drop, length-take, length-drop, drop_of_length-le}
+use lib.ListN.{length, take, drop, length-take, length-drop, drop_of_length-le}
 use lib.Seq.{drop-cons, drop-length, drop-drop, take-add}
 use borrow.Author.Tests.{eqb-true, eqb-false, ltb-false}
-use Rattle.rtp_packet.specs.Header.{byte, bit, big_endian, version, padding, extension, csrc_count, marker, payload_type_of, sequence_number, timestamp, ssrc, extension_start, extension_length, header_length, padding_length, payload_end, between, payload_of}
+use Rattle.rtp_packet.specs.Header.{byte, bit, big_endian, padding, extension, csrc_count, extension_start, extension_length, header_length, padding_length, payload_end, between, payload_of}
 use Rattle.rtp_packet.specs.Datagram.{wrong_padding}
-use Rattle.rtp_packet.specs.Layout.{Fields, Extension, Padding, no_extension, extended, no_padding, padded, Fits, ExtensionFits, PaddingFits, EachBelow, extension_bit, padding_bit, weight, bytes_of, word_bytes, first_byte, second_byte, extension_bytes, padding_bytes, rest_of, laid_out_of, words_at, extension_of, padding_of, fields_of}
+use Rattle.rtp_packet.specs.Layout.{no_extension, extended, no_padding, padded, Fits, ExtensionFits, PaddingFits, EachBelow, extension_bit, padding_bit, weight, bytes_of, word_bytes, first_byte, second_byte, extension_bytes, padding_bytes, rest_of, laid_out_of, words_at, extension_of, padding_of, fields_of}
 use Rattle.rtp_packet.proofs.Bytes.{bytes-at, words-at, words-below, length-words_at, joined}
 use Rattle.rtp_packet.proofs.BigEndian.{big_endian-lt}
 use Rattle.rtp_packet.proofs.Bounds.{padding-fits}

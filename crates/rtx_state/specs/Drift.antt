@@ -2,7 +2,6 @@
 use Rattle.std.specs.Prelude.{◌≡◌, ℕ, ◌+◌, ◌*◌, ◌^◌, ◌<◌, ◌≤◌, List, [], ◌∷◌, length}
 use mathlib.Core.List.{foldl}
 use Rattle.rtp.specs.declared.opt.Opt.{Opt}
-use Rattle.rtp.specs.declared.opt.Opt.TheVariants as Opt
 use Rattle.rtx_state.specs.declared.OptRtt.TheVariants.{None}
 use Rattle.rtx_state.specs.RoundTrip.{sampled_rtt, srtt_of}
 

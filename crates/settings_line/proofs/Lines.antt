@@ -23,9 +23,7 @@ use Rattle.settings_line.specs.Fields.{numbers_of, settings_of, zeros_outside, l
 use Rattle.settings_line.specs.Line.{fields, line_of, outcome, write_line, same, begins, numbers_in, line_numbers, taken, without_window, read_first, read_second, read_line}
 use Rattle.settings_line.specs.Claims.{Only, AsTheOpening}
 use Rattle.settings_line.specs.declared.ReadSettings.{ReadSettings}
-use Rattle.settings_line.specs.declared.ReadSettings.TheVariants as ReadSettings
 use Rattle.settings_line.specs.declared.WroteSettings.{WroteSettings}
-use Rattle.settings_line.specs.declared.WroteSettings.TheVariants as WroteSettings
 use Rattle.settings_line.proofs.Numbered.{length_fields, numbers-back, Readable, numbers-only}
 use Rattle.settings_line.proofs.Ranges.{both, mode_most, settings_back, numbers_again, first_eight, numbers-held, narrow}
 

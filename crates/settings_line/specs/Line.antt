@@ -10,9 +10,7 @@ use Rattle.config.specs.declared.Settings.{Settings}
 use Rattle.config.specs.Valid.{settings_valid}
 use Rattle.settings_line.specs.Fields.{numbers_of, settings_of, zeros_outside, line_valid}
 use Rattle.settings_line.specs.declared.ReadSettings.{ReadSettings}
-use Rattle.settings_line.specs.declared.ReadSettings.TheVariants as ReadSettings
 use Rattle.settings_line.specs.declared.WroteSettings.{WroteSettings}
-use Rattle.settings_line.specs.declared.WroteSettings.TheVariants as WroteSettings
 
 -- ---- written
 

@@ -6,9 +6,7 @@ use Rattle.config.specs.Mode.{mode_of, mode_number, dynamic_of}
 use Rattle.settings_line.specs.Line as Line
 use Rattle.settings_line.specs.Line.{read_line, write_line}
 use Rattle.settings_line.specs.declared.ReadSettings.{ReadSettings}
-use Rattle.settings_line.specs.declared.ReadSettings.TheVariants as ReadSettings
 use Rattle.settings_line.specs.declared.WroteSettings.{WroteSettings}
-use Rattle.settings_line.specs.declared.WroteSettings.TheVariants as WroteSettings
 use Rattle.settings_words.specs.declared.SettingsWords.{SettingsWords}
 use Rattle.settings_words.specs.declared.SettingsRead.{SettingsRead}
 use Rattle.settings_words.specs.declared.SettingsWritten.{SettingsWritten}

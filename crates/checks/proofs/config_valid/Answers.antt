@@ -1,6 +1,5 @@
 -- `config_valid` meets its contract: both tests.
 use Rattle.model.specs.Table.{config_valid}
-use borrow.Author.Rules.{rules}
 use Rattle.checks.proofs.config_valid.Goals as goal
 
 pub returns : goal.returns

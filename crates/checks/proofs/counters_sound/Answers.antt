@@ -1,6 +1,5 @@
 -- `counters_sound` meets its contract: the same tests, by what the callee ensures.
 use mathlib.Core.Bool.{and_assoc}
-use borrow.Author.Rules.{rules}
 use Rattle.model.specs.Valid.{counters_sound}
 use Rattle.checks.proofs.counters_sound.Goals as goal
 

@@ -3,7 +3,6 @@ use mathlib.Core.Path.{◌≡◌}
 use Rattle.model.specs.declared.LastReceived.TheVariants.{Some}
 use mathlib.Core.Bool.{and_assoc}
 use Rattle.model.specs.Valid.{last_sound}
-use borrow.Author.Rules.{rules}
 use Rattle.checks.proofs.last_sound.Goals as goal
 
 pub returns-in-None : goal.returns-in-None

@@ -1,7 +1,6 @@
 -- `media_first_refusal` meets its contract, arm by arm.
 use Rattle.refusals.specs.Refusals.{refuse_if}
 use Rattle.model.specs.Table.{media_first_refusal, no_media_of}
-use borrow.Author.Rules.{rules}
 use Rattle.checks.proofs.media_first_refusal.Goals as goal
 
 pub returns-in-None : goal.returns-in-None

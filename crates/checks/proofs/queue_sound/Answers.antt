@@ -1,7 +1,6 @@
 -- `queue_sound` meets its contract: the same tests, by what each callee ensures.
 use mathlib.Core.Bool.{and_assoc}
 use Rattle.model.specs.Valid.{queue_sound}
-use borrow.Author.Rules.{rules}
 use Rattle.checks.proofs.queue_sound.Goals as goal
 
 pub returns : goal.returns

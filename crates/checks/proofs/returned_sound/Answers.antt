@@ -2,7 +2,6 @@
 use Rattle.model.specs.Valid.{returned_sound}
 use Rattle.rtp.specs.Opt.{number_of, at_most}
 use Rattle.model.specs.Records.{highest_of}
-use borrow.Author.Rules.{rules}
 use Rattle.checks.proofs.returned_sound.Goals as goal
 
 pub returns-in-None : goal.returns-in-None

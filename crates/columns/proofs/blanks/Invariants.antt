@@ -1,11 +1,8 @@
 -- `blanks` meets its contract: what follows the blanks passed is what follows all of them.
 use Prim.Native.Nat.{◌≤◌, ◌-◌}
-use mathlib.Core.Path.{◌≡◌, sym, ◌∙◌}
-use borrow.Author.Rules.{rules}
-use native.Mathlib.Omega.{arith}
+use mathlib.Core.Path.{◌≡◌}
 use lib.ListN.{length, drop}
 use Rattle.columns.specs.Columns.{after_blanks}
-use Rattle.columns.proofs.Reading.{blank_passed, blank_none, blank_end}
 use Rattle.columns.proofs.blanks.Given as goal
 
 abbrev pub invariant-loop-i : goal.invariant-loop-i

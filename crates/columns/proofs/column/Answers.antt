@@ -1,5 +1,4 @@
 -- `column` meets its contract.
-use borrow.Author.Rules.{rules}
 use borrow.Author.Tests.{eq-eqb, ne_eqb}
 use Rattle.columns.proofs.column.Goals as goal
 

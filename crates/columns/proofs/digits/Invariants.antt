@@ -1,12 +1,9 @@
 -- `digits` meets its contract: what the digits passed make, with those left behind it, is what all of them make.
-use Prim.Native.Nat.{◌≤◌, ◌+◌, ◌-◌}
+use Prim.Native.Nat.{◌≤◌, ◌-◌}
 use mathlib.Core.Path.{◌≡◌}
-use borrow.Author.Rules.{rules}
-use native.Mathlib.Omega.{arith}
 use lib.ListN.{length, drop}
 use Rattle.rtp.specs.declared.opt.Opt.TheVariants.{Some}
 use Rattle.columns.specs.Columns.{digits_of}
-use Rattle.columns.proofs.Reading.{digits-none, digits_step, digits-end}
 use Rattle.columns.proofs.digits.Given as goal
 
 abbrev pub invariant-loop-i : goal.invariant-loop-i

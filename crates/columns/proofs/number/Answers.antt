@@ -3,7 +3,6 @@ use native.Mathlib.Omega.{arith}
 use borrow.Author.Tests.{eq-eqb}
 use mathlib.Core.Path.{◌∙◌}
 use Rattle.columns.proofs.Reading.{zero-first, no_zero-first}
-use borrow.Author.Rules.{rules}
 use Rattle.columns.specs.Columns.{number_of}
 use Rattle.columns.proofs.number.Goals as goal
 

@@ -1,7 +1,6 @@
 -- `with_digit` meets its contract: the tests are those of `with_digit`, with the sum's bound taken before the sum is made.
 use Prim.Native.Nat.{◌+◌, ◌*◌, ◌-◌, ◌^◌}
 use native.Mathlib.Omega.{arith}
-use borrow.Author.Rules.{rules}
 use borrow.Author.Tests.{le-leb, lt-leb, lt-ltb, le-ltb}
 use Rattle.columns.specs.Columns.{with_digit}
 use Rattle.columns.proofs.with_digit.Goals as goal

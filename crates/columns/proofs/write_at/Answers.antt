@@ -1,7 +1,6 @@
 -- `write_at` meets its contract: the field is the whole of the part that is lent.
 use Prim.Native.Nat.{ℕ, ◌+◌, ◌-◌}
 use mathlib.Core.Path.{◌≡◌, sym, ap, ◌∙◌}
-use borrow.Author.Rules.{rules}
 use borrow.Rule.Slice.PartMut.{mid_of, mid_len}
 use native.Mathlib.Omega.{arith}
 use lib.ListN.{length}

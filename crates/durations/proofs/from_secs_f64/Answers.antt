@@ -1,6 +1,5 @@
 -- `from_secs_f64`: the branches are those of the definition.
 use mathlib.Core.Path.{ap}
-use borrow.Author.Rules.{rules}
 use Rattle.durations.specs.Seconds.{from_secs_f64}
 use Rattle.durations.specs.declared.FromSecs.TheVariants.{Nanos}
 use Rattle.durations.proofs.from_secs_f64.Goals as goal

@@ -1,6 +1,5 @@
 -- `nanos_from_secs`: each arm is a line of `nanos_of`.
 use mathlib.Core.Path.{sym, ap, ◌∙◌}
-use borrow.Author.Rules.{rules}
 use Rattle.durations.specs.Seconds.{nanos_of, nanos_from_secs}
 use Rattle.durations.proofs.nanos_from_secs.Goals as goal
 

@@ -1,11 +1,9 @@
 -- `nearest_nanos`: Nearest says what the numbers that the code works out are.
 use mathlib.Core.Path.{◌≡◌, sym, subst}
-use mathlib.Core.Logic.{⊎_elim}
 use mathlib.Core.Bool.{true}
 use Prim.Native.Nat.{ℕ, ◌+◌, ◌-◌, ◌*◌, ◌/◌, ◌%◌, ◌^◌, ◌≤◌, ◌<◌}
 use native.Mathlib.Nat.{le_trans, lt_of_lt_of_le}
 use native.Mathlib.Omega.{arith}
-use borrow.Author.Rules.{rules}
 use lib.Dec.{T, lit≤}
 use lib.Pow.{pow_pos}
 use lib.Ieee.{Float, binary64, fits, to_bits, lt}
@@ -131,5 +129,6 @@ returns c =
     let u : ℕ = 1 * 2 ^ (1049 - e) % 18446744073709551616 in
     let is : u ≡ 2 ^ (1049 - e) = N.unit_is x held c.requires.fact_1 under c.if-exponent-lt992.false in
     elim c.if-twice-unit-2.branch [
-      then-twice-unit-2+else-rest-eq0 w ↦ N.past x held c.requires.fact_1 under c.if-exponent-lt992.false u is w.if-twice-unit-2.true (some _ w.if-rest-eq0.false)
-      | else-twice-unit-2 w ↦ N.up x held c.requires.fact_1 under c.if-exponent-lt992.false u is (above _ _ c.if-twice-unit.false w.if-twice-unit-2.false) ]
+      | then-twice-unit-2+else-rest-eq0 w ↦ N.past x held c.requires.fact_1 under c.if-exponent-lt992.false u is w.if-twice-unit-2.true (some _ w.if-rest-eq0.false)
+      | else-twice-unit-2 w ↦ N.up x held c.requires.fact_1 under c.if-exponent-lt992.false u is (above _ _ c.if-twice-unit.false w.if-twice-unit-2.false)
+    ]

@@ -1,5 +1,5 @@
 -- `main` is safe and ends: it reads a bounded number of lines.
-use Rattle.std.proofs.Common.{◌-◌, ◌≤◌, rules}
+use Rattle.std.proofs.Common.{◌-◌, ◌≤◌}
 use Rattle.figures.proofs.main.Given as goal
 
 abbrev pub invariant-loop-i : goal.invariant-loop-i

@@ -1,7 +1,6 @@
 -- `delta_in_rtp_timesteps`: the product is below 2 ^ 52 in size, so its bits can be cut.
 use mathlib.Core.Path.{◌≡◌, sym, ap, ◌∙◌, subst}
 use Prim.Native.Nat.{◌<◌, ◌^◌}
-use borrow.Author.Rules.{rules}
 use lib.IntN.{ℤ, pos}
 use lib.Signed.{mag}
 use lib.Ieee.{Float, binary64, of_int, mul, to_signed}

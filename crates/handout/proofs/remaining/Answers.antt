@@ -1,6 +1,5 @@
 -- `remaining`: the test is that of the definition.
 use mathlib.Core.Path.{◌∙◌}
-use borrow.Author.Rules.{rules}
 use borrow.Author.Tests.{le-leb, lt-leb}
 use Rattle.handout.specs.Timeout.{remaining_of}
 use Rattle.handout.proofs.remaining.Goals as goal

@@ -10,7 +10,7 @@ use lib.Ieee.Bits.{to_bits-lt}
 use lib.Ieee.Scale.{finite}
 use mir.Syntax.{w64}
 use mir.ValLaws.{to_z-of_z}
-use Rattle.handout.specs.Bits.{Below52, whole_of, with_sign}
+use Rattle.handout.specs.Bits.{whole_of, with_sign}
 use Rattle.handout.proofs.Cut.{field-le, whole-lt, cut-is}
 use Rattle.handout.proofs.truncated.Goals as goal
 

@@ -1,13 +1,12 @@
 -- `whole_part`: the shift is by at most 52, so that the unit is the power that the definition has.
 use mathlib.Core.Path.{◌≡◌, sym, ◌∙◌, subst}
-use Prim.Native.Nat.{ℕ, ◌+◌, ◌-◌, ◌*◌, ◌/◌, ◌%◌, ◌^◌, ◌≤◌, ◌<◌}
+use Prim.Native.Nat.{ℕ, ◌-◌, ◌*◌, ◌%◌, ◌^◌, ◌≤◌, ◌<◌}
 use native.Mathlib.Nat.{one-mul}
 use native.Mathlib.Omega.{arith}
-use borrow.Author.Rules.{rules}
 use borrow.Author.Tests.{lt-ltb, le-ltb}
 use lib.Dec.{lit<}
 use lib.Pow.{pow_pos, shl_exact}
-use Rattle.handout.specs.Bits.{exponent_of, whole_of}
+use Rattle.handout.specs.Bits.{whole_of}
 use Rattle.handout.proofs.whole_part.Goals as goal
 
 -- the code's unit, `1 << (1075 - e)`

@@ -1,5 +1,4 @@
 -- `jitter_alone` meets its contract.
-use Rattle.rtx_state.specs.declared.OptRtt.TheVariants.{None}
 use Rattle.config.proofs.Bounds as Bounds
 use Rattle.model.specs.Rules.{estimate_in}
 use Rattle.model.specs.Poll.{delay_of}

@@ -1,8 +1,6 @@
 -- `attempts_of` meets its contract.
-use Prim.Native.Nat.{◌-◌}
 use native.Mathlib.Omega.{arith}
-use Rattle.nack_attempts.proofs.Powers.{Trying, trying_first, trying_more, trying_found, trying_none, power-lt, bound_lt}
-use borrow.Author.Rules.{rules}
+use Rattle.nack_attempts.proofs.Powers.{trying_first, trying_more, trying_found, trying_none, power-lt, bound_lt}
 use Rattle.nack_attempts.proofs.attempts_of.Goals as goal
 
 pub loop-n-init : goal.loop-n-init

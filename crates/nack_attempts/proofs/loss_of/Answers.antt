@@ -1,13 +1,12 @@
 -- `loss_of` meets its contract: Bits says what the numbers that the code works out are.
 use mathlib.Core.Path.{◌≡◌, sym, subst}
-use Prim.Native.Nat.{ℕ, ◌-◌, ◌*◌, ◌/◌, ◌%◌, ◌^◌, ◌≤◌, ◌<◌}
+use Prim.Native.Nat.{ℕ, ◌-◌, ◌*◌, ◌/◌, ◌%◌, ◌^◌, ◌<◌}
 use native.Mathlib.Nat.{le_trans}
 use native.Mathlib.Omega.{arith}
 use lib.Dec.{T, lit≤}
 use lib.Ieee.{Float, binary32, fits}
 use Rattle.float_laws.proofs.Upto.{real_of}
 use Rattle.nack_attempts.proofs.Bits as B
-use borrow.Author.Rules.{rules}
 use Rattle.nack_attempts.proofs.loss_of.Goals as goal
 
 pub float_to_bits-loss : goal.float_to_bits-loss

@@ -1,7 +1,6 @@
 -- `name`: one step of `next`, and its pair written where it stands.
 use mathlib.Core.Path.{ap}
 use native.Mathlib.Omega.{arith}
-use borrow.Author.Rules.{rules}
 use Rattle.nack_pairs.proofs.Writing.{next_least, bytes_of_lem}
 use Rattle.nack_pairs.proofs.name.Goals as goal
 

@@ -2,7 +2,6 @@
 use mathlib.Core.Path.{sym, ap, ◌∙◌}
 use Prim.Native.Nat.{ℕ, ◌+◌}
 use native.Mathlib.Omega.{arith}
-use borrow.Author.Rules.{rules}
 use Rattle.nack_pairs.proofs.Writing.{next_none, next_in, next_new, positive, shifted, fits_in, mk_naming}
 use Rattle.nack_pairs.proofs.next.Goals as goal
 

@@ -1,6 +1,5 @@
 -- `pairing`: each part is a law of proofs/; the examples are computed.
 use mathlib.Core.Path.{refl}
-use borrow.Author.Rules.{rules}
 use Rattle.nack_pairs.specs.Pairs.{grown, shut, from, pairs, marked, named}
 use Rattle.nack_pairs.specs.Wire.{bytes_of, wire, entries}
 use Rattle.nack_pairs.specs.Reader.{named16, numbers_in}

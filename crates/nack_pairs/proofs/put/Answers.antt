@@ -1,6 +1,5 @@
 -- `put`: what `copy` writes over the front of a part is written at its start.
 use native.Mathlib.Omega.{arith}
-use borrow.Author.Rules.{rules}
 use Rattle.words.proofs.Moves.{part_written}
 use Rattle.nack_pairs.specs.Wire.{bytes_of}
 use Rattle.nack_pairs.proofs.put.Goals as goal

@@ -1,6 +1,5 @@
 -- `packet_gaps::clear` meets its contract: no gaps have no words.
 use Rattle.words.specs.Blocks.{laid, flat}
-use borrow.Author.Rules.{rules}
 use Rattle.packet_gaps.proofs.clear.Goals as goal
 
 pub returns : goal.returns

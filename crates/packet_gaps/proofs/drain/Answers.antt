@@ -1,7 +1,6 @@
 -- `packet_gaps::drain` meets its contract: the words of the first k gaps go.
 use mathlib.Core.Path.{◌∙◌}
 use Rattle.packet_gaps.proofs.Laws.{gaps-drop}
-use borrow.Author.Rules.{rules}
 use Rattle.packet_gaps.proofs.drain.Goals as goal
 
 pub returns : goal.returns

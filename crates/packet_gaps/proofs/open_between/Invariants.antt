@@ -1,9 +1,6 @@
 -- `packet_gaps::open_between` meets its contract: the loop keeps `Opening`.
 use Prim.Native.Nat.{◌-◌}
-use native.Mathlib.Omega.{arith}
-use Rattle.model.specs.Rules.{fresh}
-use Rattle.packet_gaps.proofs.Opening.{Opening, opening-none, opening_more, opening_all}
-use borrow.Author.Rules.{rules}
+use Rattle.packet_gaps.proofs.Opening.{Opening}
 use Rattle.packet_gaps.proofs.open_between.Given as goal
 
 abbrev pub invariant-loop-number : goal.invariant-loop-number

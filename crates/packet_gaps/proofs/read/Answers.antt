@@ -1,6 +1,5 @@
 -- `packet_gaps::read` meets its contract: the record is made of its four words.
 use Rattle.packet_gaps.proofs.Laws.{gap-words}
-use borrow.Author.Rules.{rules}
 use Rattle.packet_gaps.proofs.read.Goals as goal
 
 pub returns : goal.returns

@@ -1,6 +1,5 @@
 -- `packet_gaps::write` meets its contract: the array holds the words of the gap.
 use Rattle.model.specs.Storage.{gap_words_of}
-use borrow.Author.Rules.{rules}
 use Rattle.packet_gaps.proofs.write.Goals as goal
 
 pub returns : goal.returns

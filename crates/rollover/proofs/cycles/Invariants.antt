@@ -1,5 +1,5 @@
 -- `cycles` is safe and ends: the loop makes five turns.
-use Rattle.std.proofs.Common.{◌-◌, ◌≤◌, rules}
+use Rattle.std.proofs.Common.{◌-◌, ◌≤◌}
 use Rattle.rollover.proofs.cycles.Given as goal
 
 abbrev pub invariant-loop-i : goal.invariant-loop-i

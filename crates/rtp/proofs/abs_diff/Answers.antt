@@ -1,5 +1,5 @@
 -- `abs_diff` meets its contract: of the two differences that `apart` adds, one is 0.
-use Rattle.std.proofs.Common.{arith, rules}
+use Rattle.std.proofs.Common.{arith}
 use Rattle.rtp.specs.Numbers.{apart}
 use Rattle.rtp.proofs.abs_diff.Goals as goal
 

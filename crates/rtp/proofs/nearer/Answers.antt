@@ -1,5 +1,5 @@
 -- `nearer` meets its contract: the code's test is the definition's, on the two distances.
-use Rattle.std.proofs.Common.{rules, le-ltb, lt-ltb}
+use Rattle.std.proofs.Common.{le-ltb, lt-ltb}
 use Rattle.rtp.specs.Numbers as Numbers
 use Rattle.rtp.proofs.nearer.Goals as goal
 

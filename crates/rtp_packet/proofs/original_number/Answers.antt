@@ -1,5 +1,4 @@
 -- `original_number` meets its contract: the two answers are the two cases of `original_refusal`.
-use borrow.Author.Rules.{rules}
 use borrow.Author.Tests.{lt-ltb, le-ltb}
 use Rattle.refusals.specs.Refusals.{refuse_if}
 use Rattle.rtp_packet.specs.Original.{original_refusal, original_number, original_of}

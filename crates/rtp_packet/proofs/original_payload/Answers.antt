@@ -1,7 +1,6 @@
 -- `original_payload` meets its contract: what is taken is all that is left after two bytes.
 use mathlib.Core.Path.{sym}
 use native.Mathlib.Omega.{arith}
-use borrow.Author.Rules.{rules}
 use lib.ListN.{length, drop_of_length-le}
 use Rattle.rtp_packet.specs.Original.{original_payload}
 use Rattle.rtp_packet.proofs.Bounds.{between-rest}

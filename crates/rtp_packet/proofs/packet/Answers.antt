@@ -1,6 +1,5 @@
 -- `packet` meets its contract: each field is what its reader ensures.
 use Rattle.rtp_packet.specs.Datagram.{packet_of}
-use borrow.Author.Rules.{rules}
 use Rattle.rtp_packet.proofs.packet.Goals as goal
 
 pub returns : goal.returns

@@ -1,7 +1,6 @@
 -- `parse` meets its contract: its test is that of `parsed`.
 use borrow.Author.Tests.{eq-eqb, ne_eqb}
 use Rattle.rtp_packet.specs.Datagram.{parsed}
-use borrow.Author.Rules.{rules}
 use Rattle.rtp_packet.proofs.parse.Goals as goal
 
 pub returns-then-refusal-ne0 : goal.returns-then-refusal-ne0

@@ -1,7 +1,6 @@
 -- `payload` meets its contract: `take` stops at the end of the list, and past the end there is nothing to drop.
 use mathlib.Core.Path.{sym, ◌∙◌}
 use native.Mathlib.Omega.{arith}
-use borrow.Author.Rules.{rules}
 use lib.ListN.{length, drop_of_length-le}
 use Rattle.rtp_packet.proofs.Bounds.{between_none, between-rest}
 use Rattle.rtp_packet.proofs.payload.Goals as goal

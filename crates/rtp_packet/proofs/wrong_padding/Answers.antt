@@ -1,7 +1,6 @@
 -- `wrong_padding` meets its contract: each answer rewrites the definition by the tests that led there.
 use mathlib.Core.Path.{◌≡◌, sym, ◌∙◌}
 use mathlib.Core.Bool.{true}
-use borrow.Author.Rules.{rules}
 use borrow.Author.Tests.{le-leb, lt-leb, eq-eqb, ne_eqb, not-true, not-false}
 use Rattle.rtp_packet.specs.Header.{padding}
 use Rattle.rtp_packet.specs.Datagram.{wrong_padding}

@@ -1,6 +1,5 @@
 -- `srtt_of`: each arm is a line of the definition.
 use Rattle.rtx_state.specs.RoundTrip.{srtt_of}
-use Rattle.std.proofs.Common.{rules}
 use Rattle.rtx_state.proofs.srtt_of.Goals as goal
 
 pub returns-in-None : goal.returns-in-None

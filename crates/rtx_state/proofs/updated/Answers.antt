@@ -1,5 +1,5 @@
 -- `updated`: the parts that the code divides by themselves add up to the floors of the definition.
-use Rattle.std.proofs.Common.{◌≡◌, ℕ, ◌+◌, ◌*◌, ◌/◌, ◌%◌, arith, rules}
+use Rattle.std.proofs.Common.{◌≡◌, ℕ, ◌+◌, ◌*◌, ◌/◌, ◌%◌, arith}
 use Rattle.rtx_state.specs.RoundTrip.{rtt_updated}
 use Rattle.rtx_state.proofs.updated.Goals as goal
 

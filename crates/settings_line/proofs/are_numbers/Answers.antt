@@ -2,12 +2,10 @@
 use Prim.Native.Nat.{◌*◌, ◌-◌}
 use mathlib.Core.Path.{◌≡◌, sym, ap, ◌∙◌}
 use native.Mathlib.Omega.{arith}
-use lib.ListN.{length}
-use Rattle.settings_line.proofs.Numbered.{Gathering, gathering_none, gathering_more, gathering_wrong, gathering_all}
+use Rattle.settings_line.proofs.Numbered.{gathering_none, gathering_more, gathering_wrong, gathering_all}
 use Prim.Native.Nat.{ℕ, ◌+◌}
 use lib.ListN.{take, drop}
 use Rattle.columns.specs.Columns.{field_number}
-use borrow.Author.Rules.{rules}
 use Rattle.settings_line.proofs.are_numbers.Goals as goal
 
 pub loop-i-init : goal.loop-i-init

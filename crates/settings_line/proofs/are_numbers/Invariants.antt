@@ -1,13 +1,7 @@
 -- `are_numbers` meets its contract: the numbers stored, with those of the fields that are left, are all of them.
-use Prim.Native.Nat.{◌*◌, ◌-◌}
-use mathlib.Core.Path.{◌≡◌, sym, ap, ◌∙◌}
-use native.Mathlib.Omega.{arith}
+use Prim.Native.Nat.{◌-◌}
 use lib.ListN.{length}
-use Rattle.settings_line.proofs.Numbered.{Gathering, gathering_none, gathering_more, gathering_wrong, gathering_all}
-use Prim.Native.Nat.{ℕ, ◌+◌}
-use lib.ListN.{take, drop}
-use Rattle.columns.specs.Columns.{field_number}
-use borrow.Author.Rules.{rules}
+use Rattle.settings_line.proofs.Numbered.{Gathering}
 use Rattle.settings_line.proofs.are_numbers.Given as goal
 
 abbrev pub invariant-loop-i : goal.invariant-loop-i

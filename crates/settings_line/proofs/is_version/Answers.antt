@@ -3,7 +3,6 @@ use native.Mathlib.Omega.{arith}
 use mathlib.Core.Path.{sym}
 use Rattle.settings_line.proofs.Lines.{begins-short, begins-none, begins-some}
 use lib.Seq.{length-take-le}
-use borrow.Author.Rules.{rules}
 use Rattle.settings_line.proofs.is_version.Goals as goal
 
 pub returns-then-line-lt-WIDTH : goal.returns-then-line-lt-WIDTH

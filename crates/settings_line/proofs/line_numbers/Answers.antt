@@ -2,7 +2,6 @@
 use mathlib.Core.Path.{sym}
 use lib.ListN.{length}
 use Rattle.settings_line.proofs.Lines.{wrong_length, wrong_feed, answered}
-use borrow.Author.Rules.{rules}
 use Rattle.settings_line.proofs.line_numbers.Goals as goal
 
 pub returns-then-line-end : goal.returns-then-line-end

@@ -1,6 +1,5 @@
 -- `numbers` meets its contract.
 use Rattle.settings_line.specs.Fields.{numbers_of}
-use borrow.Author.Rules.{rules}
 use Rattle.settings_line.proofs.numbers.Goals as goal
 
 pub returns : goal.returns

@@ -1,6 +1,5 @@
 -- `read_line` meets its contract.
 use Rattle.settings_line.specs.Line.{read_line}
-use borrow.Author.Rules.{rules}
 use Rattle.settings_line.proofs.read_line.Goals as goal
 
 pub returns-then-is_version : goal.returns-then-is_version

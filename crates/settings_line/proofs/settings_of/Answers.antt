@@ -1,6 +1,5 @@
 -- `settings_of` meets its contract.
 use Rattle.settings_line.specs.Fields.{settings_of}
-use borrow.Author.Rules.{rules}
 use Rattle.settings_line.proofs.settings_of.Goals as goal
 
 pub returns : goal.returns

@@ -5,7 +5,6 @@ use lib.ListN.{get_or}
 use Rattle.settings_line.specs.Line.{taken}
 use Rattle.settings_line.proofs.Ranges.{neither}
 use Rattle.settings_line.proofs.Lines.{too_wide}
-use borrow.Author.Rules.{rules}
 use mathlib.Core.Path.{ap}
 use mathlib.Core.Bool.{not}
 use Rattle.settings_line.proofs.taken.Goals as goal

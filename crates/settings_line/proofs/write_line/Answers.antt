@@ -1,6 +1,5 @@
 -- `write_line` meets its contract.
-use mathlib.Core.Path.{◌≡◌, sym, ap, ◌∙◌}
-use mathlib.Core.Bool.{true}
+use mathlib.Core.Path.{sym, ap, ◌∙◌}
 use mathlib.Core.List.{List}
 use Prim.Native.Nat.{ℕ, ◌≤◌}
 use native.Mathlib.Omega.{arith}
@@ -11,7 +10,6 @@ use Rattle.settings_line.specs.Fields.{zeros_outside, line_valid}
 use Rattle.settings_line.specs.Line.{fields, outcome, write_line}
 use Rattle.settings_line.specs.declared.WroteSettings.TheVariants as WroteSettings
 use Rattle.settings_line.proofs.Lines.{opening, by-fields, fed}
-use borrow.Author.Rules.{rules}
 use mathlib.Core.Bool.{not}
 use Rattle.settings_line.proofs.write_line.Goals as goal
 

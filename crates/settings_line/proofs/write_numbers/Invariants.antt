@@ -1,9 +1,7 @@
 -- `write_numbers` meets its contract: field i is that of number i.
 use Prim.Native.Nat.{◌-◌}
-use native.Mathlib.Omega.{arith}
 use lib.ListN.{length}
-use Rattle.settings_line.proofs.Numbered.{Putting, putting_none, putting_more, putting_all}
-use borrow.Author.Rules.{rules}
+use Rattle.settings_line.proofs.Numbered.{Putting}
 use Rattle.settings_line.proofs.write_numbers.Given as goal
 
 abbrev pub invariant-loop-i : goal.invariant-loop-i

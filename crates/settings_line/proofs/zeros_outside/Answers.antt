@@ -1,7 +1,6 @@
 -- `zeros_outside`: the definition, as it stands.
 use mathlib.Core.Path.{refl}
 use Rattle.settings_line.specs.Fields.{zeros_outside}
-use borrow.Author.Rules.{rules}
 use Rattle.settings_line.proofs.zeros_outside.Goals as goal
 
 pub returns : goal.returns

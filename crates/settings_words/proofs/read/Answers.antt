@@ -1,7 +1,6 @@
 -- `read`: what the line's reader answers, in words.
 use mathlib.Core.Path.{ap, ◌∙◌}
 use Rattle.settings_words.specs.Words.{told, read_words}
-use borrow.Author.Rules.{rules}
 use Rattle.settings_words.proofs.read.Goals as goal
 
 pub returns : goal.returns

@@ -1,6 +1,5 @@
 -- `read_told`: each arm is a line of the definition.
 use Rattle.settings_words.specs.Words.{told}
-use borrow.Author.Rules.{rules}
 use Rattle.settings_words.proofs.read_told.Goals as goal
 
 pub returns-in-Settings : goal.returns-in-Settings

@@ -9,8 +9,7 @@ use Rattle.config.specs.declared.RtpInboundStreamSortedQueueMode.TheVariants.{Fi
 use Rattle.config.specs.Mode.{mode_number, no_dynamic, dynamic_of}
 use Rattle.settings_line.specs.Fields.{numbers_of, settings_of as settingsIn}
 use Rattle.settings_line.proofs.Ranges.{settings_back}
-use Rattle.settings_words.specs.Words.{settings_of, words_of, mode_fits, Kept}
-use borrow.Author.Rules.{rules}
+use Rattle.settings_words.specs.Words.{settings_of, words_of, mode_fits}
 use Rattle.settings_words.proofs.settings_are_kept.Goals as goal
 
 fits : (s : Settings) → mode_fits (words_of s) ≡ true

@@ -1,6 +1,5 @@
 -- `settings_of` meets its contract.
 use Rattle.settings_words.specs.Words.{settings_of}
-use borrow.Author.Rules.{rules}
 use Rattle.settings_words.proofs.settings_of.Goals as goal
 
 pub returns : goal.returns

@@ -1,6 +1,5 @@
 -- `words_of` meets its contract.
 use Rattle.settings_words.specs.Words.{words_of}
-use borrow.Author.Rules.{rules}
 use Rattle.settings_words.proofs.words_of.Goals as goal
 
 pub returns : goal.returns

@@ -4,7 +4,6 @@ use borrow.Author.Tests.{not-true, not-false}
 use Rattle.config.specs.declared.Settings.{Settings}
 use Rattle.settings_line.specs.Line.{write_line}
 use Rattle.settings_words.specs.Words.{in_words, write_words}
-use borrow.Author.Rules.{rules}
 use mathlib.Core.Bool.{not}
 use Rattle.settings_words.proofs.write.Goals as goal
 

@@ -1,6 +1,5 @@
 -- `write_told`: each arm is a line of the definition.
 use Rattle.settings_words.specs.Words.{wrote_words}
-use borrow.Author.Rules.{rules}
 use Rattle.settings_words.proofs.write_told.Goals as goal
 
 pub returns-in-Bytes : goal.returns-in-Bytes

@@ -1,9 +1,6 @@
 -- `words::gathered` meets its contract: each turn takes one more in.
-use Prim.Native.Nat.{◌-◌}
 use native.Mathlib.Omega.{arith}
-use lib.ListN.{length}
-use Rattle.words.proofs.Sweeps.{Gathering, gathering_none, gathering_more, gathering_all}
-use borrow.Author.Rules.{rules}
+use Rattle.words.proofs.Sweeps.{gathering_none, gathering_more, gathering_all}
 use Rattle.words.proofs.gathered.Goals as goal
 
 pub loop-i-init : goal.loop-i-init

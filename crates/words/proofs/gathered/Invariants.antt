@@ -1,9 +1,7 @@
 -- `words::gathered` meets its contract: each turn takes one more in.
 use Prim.Native.Nat.{◌-◌}
-use native.Mathlib.Omega.{arith}
 use lib.ListN.{length}
-use Rattle.words.proofs.Sweeps.{Gathering, gathering_none, gathering_more, gathering_all}
-use borrow.Author.Rules.{rules}
+use Rattle.words.proofs.Sweeps.{Gathering}
 use Rattle.words.proofs.gathered.Given as goal
 
 abbrev pub invariant-loop-i : goal.invariant-loop-i

@@ -5,7 +5,6 @@ use native.Mathlib.Omega.{arith}
 use lib.ListN.{length}
 use Rattle.words.specs.Words.{written}
 use Rattle.words.proofs.Moves.{raised, put_in}
-use borrow.Author.Rules.{rules}
 use Rattle.words.proofs.insert.Goals as goal
 
 pub returns : goal.returns

@@ -1,9 +1,7 @@
 -- `words::lower` meets its contract: each turn writes the word `by` further on, which no turn before has written.
 use Prim.Native.Nat.{◌-◌}
-use native.Mathlib.Omega.{arith}
 use lib.ListN.{drop}
-use Rattle.words.proofs.Loops.{Writing, writing_all, lowering_none, lowering_more}
-use borrow.Author.Rules.{rules}
+use Rattle.words.proofs.Loops.{Writing}
 use Rattle.words.proofs.lower.Given as goal
 
 abbrev pub invariant-loop-i : goal.invariant-loop-i

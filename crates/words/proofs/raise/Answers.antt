@@ -1,7 +1,6 @@
 -- `words::raise` meets its contract: each turn, the last word first, writes one that no turn before has written.
 use native.Mathlib.Omega.{arith}
-use Rattle.words.proofs.Loops.{Raising, raising_none, raising_more, raising_all}
-use borrow.Author.Rules.{rules}
+use Rattle.words.proofs.Loops.{raising_none, raising_more, raising_all}
 use Rattle.words.proofs.raise.Goals as goal
 
 pub loop-i-init : goal.loop-i-init

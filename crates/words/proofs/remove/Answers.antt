@@ -1,7 +1,6 @@
 -- `words::remove` meets its contract: the words after those that go are moved down, and as many places cleared.
 use native.Mathlib.Omega.{arith}
 use Rattle.words.proofs.Moves.{removed, removed_none}
-use borrow.Author.Rules.{rules}
 use Rattle.words.proofs.remove.Goals as goal
 
 pub returns-then-k-eq0 : goal.returns-then-k-eq0

@@ -5,7 +5,6 @@ use native.Mathlib.Omega.{arith}
 use lib.ListN.{length}
 use Rattle.words.specs.Words.{written}
 use Rattle.words.proofs.Moves.{put_for_first}
-use borrow.Author.Rules.{rules}
 use Rattle.words.proofs.replace_first.Goals as goal
 
 pub returns : goal.returns

@@ -2,7 +2,6 @@
 use mathlib.Core.Path.{◌∙◌}
 use native.Mathlib.Omega.{arith}
 use Rattle.words.proofs.Moves.{cleared, tidied, tidied_none}
-use borrow.Author.Rules.{rules}
 use Rattle.words.proofs.tidy.Goals as goal
 
 pub returns-then-n-s : goal.returns-then-n-s

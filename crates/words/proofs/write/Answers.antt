@@ -1,7 +1,6 @@
 -- `words::write` meets its contract: what `copy` writes over the front of a part is written at its start.
 use native.Mathlib.Omega.{arith}
 use Rattle.words.proofs.Moves.{part_written}
-use borrow.Author.Rules.{rules}
 use Rattle.words.proofs.write.Goals as goal
 
 pub returns : goal.returns

@@ -1,6 +1,5 @@
 -- `dynamic`: each arm is a line of the definition.
 use Rattle.config.specs.Mode.{dynamic_of}
-use borrow.Author.Rules.{rules}
 use Rattle.config.proofs.RtpInboundQueueMode.dynamic.Goals as goal
 
 pub returns-in-Passthrough : goal.returns-in-Passthrough

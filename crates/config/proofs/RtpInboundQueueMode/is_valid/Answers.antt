@@ -1,6 +1,5 @@
 -- `is_valid`: each arm is a line of the definition.
 use Rattle.config.specs.Valid.{mode_valid}
-use borrow.Author.Rules.{rules}
 use Rattle.config.proofs.RtpInboundQueueMode.is_valid.Goals as goal
 
 pub returns-in-Passthrough : goal.returns-in-Passthrough

@@ -1,6 +1,5 @@
 -- `max_attempts`: each arm is a line of the definition.
 use Rattle.config.specs.Valid.{most_attempts}
-use borrow.Author.Rules.{rules}
 use Rattle.config.proofs.RtpInboundQueueMode.max_attempts.Goals as goal
 
 pub returns-in-Passthrough : goal.returns-in-Passthrough

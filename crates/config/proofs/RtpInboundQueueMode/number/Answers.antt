@@ -1,6 +1,5 @@
 -- `number`: each arm is a line of the definition.
 use Rattle.config.specs.Mode.{mode_number}
-use borrow.Author.Rules.{rules}
 use Rattle.config.proofs.RtpInboundQueueMode.number.Goals as goal
 
 pub returns-in-Passthrough : goal.returns-in-Passthrough

@@ -1,6 +1,5 @@
 -- `is_valid`: the definition, as it stands.
 use Rattle.config.specs.Valid.{settings_valid}
-use borrow.Author.Rules.{rules}
 use Rattle.config.proofs.Settings.is_valid.Goals as goal
 
 pub returns : goal.returns

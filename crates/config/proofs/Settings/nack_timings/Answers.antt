@@ -1,5 +1,4 @@
 -- `nack_timings`: each arm is a line of `resend_delay_of`.
-use borrow.Author.Rules.{rules}
 use Rattle.config.specs.Timings.{resend_delay_of, nack_timings}
 use Rattle.config.proofs.Settings.nack_timings.Goals as goal
 

@@ -1,12 +1,10 @@
 -- `target_delay` meets its contract, mode by mode.
 use mathlib.Core.Path.{◌≡◌, ◌∙◌, ap}
-use Rattle.config.specs.declared.RtpInboundStreamSortedQueueMode.{RtpInboundStreamSortedQueueMode}
 use Rattle.config.specs.declared.RtpInboundStreamSortedQueueMode.TheVariants.{Fixed, Dynamic}
 use Rattle.config.specs.declared.RtpInboundQueueMode.TheVariants.{Passthrough, SortedQueue}
 use Rattle.config.specs.Delay.{delay_in}
 use Rattle.config.proofs.Facts.{usable}
 use Rattle.config.proofs.Bounds.{own, few}
-use borrow.Author.Rules.{rules}
 use Rattle.config.proofs.Settings.target_delay.Goals as goal
 
 pub delay-requires : goal.delay-requires

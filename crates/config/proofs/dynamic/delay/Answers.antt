@@ -5,7 +5,6 @@ use Rattle.rtx_state.specs.RoundTrip.{opt_rtt_in_range}
 use Rattle.rtx_state.specs.declared.OptRtt.{OptRtt}
 use Rattle.rtx_state.specs.declared.OptRtt.TheVariants.{None, Some}
 use Rattle.config.specs.Delay.{with_repairs, dynamic_delay}
-use borrow.Author.Rules.{rules}
 use Rattle.config.proofs.dynamic.delay.Goals as goal
 
 pub nack_delay-repairs-requires : goal.nack_delay-repairs-requires

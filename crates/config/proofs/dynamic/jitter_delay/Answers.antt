@@ -4,7 +4,6 @@ use lib.Ieee.{binary64, mul}
 use Rattle.durations.specs.Seconds.{as_secs_f64, nanos_from_secs}
 use Rattle.jitter.specs.Interarrival.{jitter_get}
 use Rattle.config.specs.Delay.{five_halves, jitter_delay}
-use borrow.Author.Rules.{rules}
 use Rattle.config.proofs.dynamic.jitter_delay.Goals as goal
 
 pub returns : goal.returns

@@ -1,5 +1,5 @@
 -- `nack_delay` meets its contract: the definition, with what the callees say; nothing wraps.
-use mathlib.Core.Path.{◌≡◌, sym, ap, subst}
+use mathlib.Core.Path.{sym, subst}
 use Prim.Native.Nat.{◌^◌, ◌≤◌, ◌<◌}
 use native.Mathlib.Omega.{arith}
 use lib.Dec.{T}
@@ -10,7 +10,6 @@ use Rattle.rtx_state.proofs.Range.{delay-lt}
 use Rattle.nack_attempts.proofs.Powers.{loss_most, attempts_most}
 use Rattle.config.specs.Delay.{nack_delay}
 use Rattle.config.proofs.Bounds.{product_lt}
-use borrow.Author.Rules.{rules}
 use Rattle.config.proofs.dynamic.nack_delay.Goals as goal
 
 pub loss_of-k-requires : goal.loss_of-k-requires

@@ -1,5 +1,5 @@
 -- `limit`: the test is what the limit asks.
-use Rattle.std.proofs.Common.{arith, rules}
+use Rattle.std.proofs.Common.{arith}
 use Rattle.figures.proofs.answers.limit.Goals as goal
 
 pub overflow_cast-rate : goal.overflow_cast-rate

@@ -1,5 +1,5 @@
 -- `signed`: what is below 2 ^ 52 can be negated.
-use Rattle.std.proofs.Common.{◌^◌, ◌<◌, ℤ, pos, ◌-ℤ◌, ap, arith, lit<, w64, rules}
+use Rattle.std.proofs.Common.{◌^◌, ◌<◌, ℤ, pos, ◌-ℤ◌, ap, arith, lit<, w64}
 use mir.ValLaws.{to_z_pos}
 use Rattle.handout.proofs.Signed.{fits, diff_mag}
 use Rattle.figures.proofs.answers.signed.Goals as goal

@@ -1,5 +1,5 @@
 -- `timeout`: the tests are what it asks.
-use Rattle.std.proofs.Common.{arith, rules}
+use Rattle.std.proofs.Common.{arith}
 use Rattle.figures.proofs.answers.timeout.Goals as goal
 
 pub overflow_cast-rate : goal.overflow_cast-rate

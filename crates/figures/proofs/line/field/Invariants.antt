@@ -1,5 +1,5 @@
 -- `field` stays within the line.
-use Rattle.std.proofs.Common.{◌-◌, ◌≤◌, rules}
+use Rattle.std.proofs.Common.{◌-◌, ◌≤◌}
 use Rattle.figures.proofs.line.field.Given as goal
 
 abbrev pub invariant-loop-i : goal.invariant-loop-i

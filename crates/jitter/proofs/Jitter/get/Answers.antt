@@ -1,5 +1,4 @@
 -- `get`: the definition, with what the callee says.
-use Rattle.std.proofs.Common.{rules}
 use Rattle.jitter.specs.Interarrival.{jitter_get}
 use Rattle.jitter.proofs.Jitter.get.Goals as goal
 

@@ -1,5 +1,4 @@
 -- `in_range`: the branches are the definition's conjunction.
-use Rattle.std.proofs.Common.{rules}
 use Rattle.jitter.specs.Interarrival.{jitter_within, jitter_in_range}
 use Rattle.jitter.proofs.Jitter.in_range.Goals as goal
 

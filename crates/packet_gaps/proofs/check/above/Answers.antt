@@ -2,7 +2,6 @@
 use Rattle.rtp.specs.Opt.{number_of, at_most}
 use Rattle.model.specs.Valid.{not_passed}
 use Rattle.packet_gaps.proofs.Laws.{not-at_or_below}
-use borrow.Author.Rules.{rules}
 use Rattle.packet_gaps.proofs.check.above.Goals as goal
 
 pub returns-in-None : goal.returns-in-None

@@ -1,9 +1,8 @@
 -- `are_sound`: the gaps from place i on decide.
-use mathlib.Core.Path.{◌≡◌, refl, sym, ◌∙◌}
-use Prim.Native.Nat.{◌-◌, ◌≤◌}
+use mathlib.Core.Path.{refl, sym, ◌∙◌}
 use borrow.Author.Tests.{not-true, not-false}
 use Rattle.packet_gaps.specs.Gaps.{gap, bounds}
-use Rattle.packet_gaps.proofs.Scan.{gaps_left, scanned, number_word, scan_end}
+use Rattle.packet_gaps.proofs.Scan.{scanned, number_word, scan_end}
 use Rattle.packet_gaps.proofs.Turns.{left, left_bad, left-last, left_unordered, left_more}
 use borrow.Author.Rules.{rules}
 use mathlib.Core.Path.{ap}

@@ -1,13 +1,8 @@
 -- `are_sound`: the gaps from place i on decide.
-use mathlib.Core.Path.{◌≡◌, refl, sym, ◌∙◌}
+use mathlib.Core.Path.{◌≡◌}
 use Prim.Native.Nat.{◌-◌, ◌≤◌}
-use borrow.Author.Tests.{not-true, not-false}
-use Rattle.packet_gaps.specs.Gaps.{gap, bounds}
-use Rattle.packet_gaps.proofs.Scan.{gaps_left, scanned, number_word, scan_end}
-use Rattle.packet_gaps.proofs.Turns.{left, left_bad, left-last, left_unordered, left_more}
-use borrow.Author.Rules.{rules}
-use mathlib.Core.Path.{ap}
-use mathlib.Core.Bool.{not}
+use Rattle.packet_gaps.specs.Gaps.{bounds}
+use Rattle.packet_gaps.proofs.Scan.{gaps_left}
 use Rattle.packet_gaps.proofs.check.are_sound.Given as goal
 
 abbrev pub invariant-loop-i : goal.invariant-loop-i

@@ -1,7 +1,6 @@
 -- `below_highest`: each arm is a line of the definition.
 use Rattle.rtp.specs.Opt.{number_of}
 use Rattle.model.specs.Valid.{under}
-use borrow.Author.Rules.{rules}
 use Rattle.packet_gaps.proofs.check.below_highest.Goals as goal
 
 pub returns-in-None : goal.returns-in-None

@@ -1,6 +1,5 @@
 -- `bounds_of`: a field each.
 use Rattle.model.specs.Valid.{bounds_of}
-use borrow.Author.Rules.{rules}
 use Rattle.packet_gaps.proofs.check.bounds_of.Goals as goal
 
 pub returns : goal.returns

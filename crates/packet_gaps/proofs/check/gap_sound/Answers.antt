@@ -1,6 +1,5 @@
 -- `gap_sound`: the definition, as it stands.
 use Rattle.model.specs.Valid.{gap_sound}
-use borrow.Author.Rules.{rules}
 use Rattle.packet_gaps.proofs.check.gap_sound.Goals as goal
 
 pub returns : goal.returns

@@ -1,7 +1,6 @@
 -- `highest_of`: each arm is a line of the definition.
 use Rattle.rtp.specs.Opt.{number_of}
 use Rattle.model.specs.Records.{highest_of}
-use borrow.Author.Rules.{rules}
 use Rattle.packet_gaps.proofs.check.highest_of.Goals as goal
 
 pub returns-in-None : goal.returns-in-None

@@ -1,7 +1,6 @@
 -- `passed_of`: each arm is a line of the definition.
 use Rattle.rtp.specs.Opt.{number_of}
 use Rattle.model.specs.Push.{passed_of}
-use borrow.Author.Rules.{rules}
 use Rattle.packet_gaps.proofs.check.passed_of.Goals as goal
 
 pub returns-in-Passthrough : goal.returns-in-Passthrough

@@ -4,7 +4,6 @@ use Rattle.words.proofs.Records.{tidied_laid}
 use Rattle.words.proofs.Forms.{records_of}
 use Rattle.model.specs.Storage.{gaps_of}
 use Rattle.model.proofs.Laid.{gap_coded}
-use borrow.Author.Rules.{rules}
 use Rattle.packet_gaps.proofs.check.tidy.Goals as goal
 
 pub returns : goal.returns

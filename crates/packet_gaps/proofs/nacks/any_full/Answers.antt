@@ -1,11 +1,10 @@
 -- `any_full`: the gaps from place i on decide.
-use mathlib.Core.Path.{◌≡◌, refl, sym, ◌∙◌}
+use mathlib.Core.Path.{refl, sym, ◌∙◌}
 use Prim.Native.Nat.{◌-◌, ◌^◌}
 use borrow.Author.Tests.{le-leb, lt-leb}
 use Rattle.packet_gaps.specs.Gaps.{gap}
 use Rattle.packet_gaps.proofs.Laws.{read_fits, due_as}
-use Rattle.packet_gaps.proofs.Scan.{full_from, full_found, full-other, full_skip, full-end}
-use borrow.Author.Rules.{rules}
+use Rattle.packet_gaps.proofs.Scan.{full_found, full-other, full_skip, full-end}
 use Rattle.packet_gaps.proofs.nacks.any_full.Goals as goal
 
 pub loop-i-init : goal.loop-i-init

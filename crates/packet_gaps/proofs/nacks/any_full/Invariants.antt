@@ -1,11 +1,7 @@
 -- `any_full`: the gaps from place i on decide.
-use mathlib.Core.Path.{◌≡◌, refl, sym, ◌∙◌}
-use Prim.Native.Nat.{◌-◌, ◌^◌}
-use borrow.Author.Tests.{le-leb, lt-leb}
-use Rattle.packet_gaps.specs.Gaps.{gap}
-use Rattle.packet_gaps.proofs.Laws.{read_fits, due_as}
-use Rattle.packet_gaps.proofs.Scan.{full_from, full_found, full-other, full_skip, full-end}
-use borrow.Author.Rules.{rules}
+use mathlib.Core.Path.{◌≡◌}
+use Prim.Native.Nat.{◌-◌}
+use Rattle.packet_gaps.proofs.Scan.{full_from}
 use Rattle.packet_gaps.proofs.nacks.any_full.Given as goal
 
 abbrev pub invariant-loop-i : goal.invariant-loop-i

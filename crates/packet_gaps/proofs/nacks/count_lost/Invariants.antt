@@ -1,15 +1,10 @@
 -- `count_lost`: the gaps before place i were tried, and those from it on decide.
 use mathlib.Core.Path.{◌≡◌}
 use Prim.Native.Nat.{◌+◌, ◌-◌, ◌≤◌}
-use native.Mathlib.Omega.{arith}
 use lib.ListN.{length, drop}
-use borrow.Author.Tests.{le-leb, lt-leb}
 use Rattle.model.specs.Lists.{leading}
 use Rattle.model.specs.Rules.{tried}
 use Rattle.model.specs.Storage.{gaps_of}
-use Rattle.packet_gaps.specs.Gaps.{gap}
-use Rattle.packet_gaps.proofs.Scan.{tried-none, tried_more, tried-end}
-use borrow.Author.Rules.{rules}
 use Rattle.packet_gaps.proofs.nacks.count_lost.Given as goal
 
 abbrev pub invariant-loop-i : goal.invariant-loop-i

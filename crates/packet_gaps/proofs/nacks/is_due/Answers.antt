@@ -1,5 +1,4 @@
 -- `is_due`: the test of what `due_at` answers.
-use borrow.Author.Rules.{rules}
 use Rattle.packet_gaps.proofs.nacks.is_due.Goals as goal
 
 pub returns : goal.returns

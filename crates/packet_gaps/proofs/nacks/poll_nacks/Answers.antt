@@ -1,6 +1,5 @@
 -- `poll_nacks`: the loop keeps `Polling`.
 use mathlib.Core.Path.{refl, ap, ◌∙◌}
-use Prim.Native.Nat.{◌-◌}
 use native.Mathlib.Omega.{arith}
 use Rattle.model.specs.Rules.{due, full}
 use Rattle.model.specs.Storage.{gaps_of}
@@ -8,8 +7,7 @@ use Rattle.model.proofs.Laid.{length-gaps_of}
 use Rattle.packet_gaps.specs.Gaps.{gap, instants_fit}
 use Rattle.packet_gaps.proofs.Laws.{no_gap, due_as}
 use Rattle.packet_gaps.proofs.Turns.{every-at}
-use Rattle.packet_gaps.proofs.Writing.{none-at, nacked_here, nacked_all, Polling, polling_none, polling_due, polling_skip, polling_count, polling_out}
-use borrow.Author.Rules.{rules}
+use Rattle.packet_gaps.proofs.Writing.{none-at, nacked_here, nacked_all, polling_none, polling_due, polling_skip, polling_count, polling_out}
 use Rattle.packet_gaps.proofs.nacks.poll_nacks.Goals as goal
 
 pub loop-i-init : goal.loop-i-init

@@ -1,15 +1,6 @@
 -- `poll_nacks`: the loop keeps `Polling`.
-use mathlib.Core.Path.{refl, ap, ◌∙◌}
 use Prim.Native.Nat.{◌-◌}
-use native.Mathlib.Omega.{arith}
-use Rattle.model.specs.Rules.{due, full}
-use Rattle.model.specs.Storage.{gaps_of}
-use Rattle.model.proofs.Laid.{length-gaps_of}
-use Rattle.packet_gaps.specs.Gaps.{gap, instants_fit}
-use Rattle.packet_gaps.proofs.Laws.{no_gap, due_as}
-use Rattle.packet_gaps.proofs.Turns.{every-at}
-use Rattle.packet_gaps.proofs.Writing.{none-at, nacked_here, nacked_all, Polling, polling_none, polling_due, polling_skip, polling_count, polling_out}
-use borrow.Author.Rules.{rules}
+use Rattle.packet_gaps.proofs.Writing.{Polling}
 use Rattle.packet_gaps.proofs.nacks.poll_nacks.Given as goal
 
 abbrev pub invariant-loop-i : goal.invariant-loop-i

@@ -1,6 +1,5 @@
 -- `poll_wire`: the loop keeps `Wiring`.
 use mathlib.Core.Path.{refl, ap, ◌∙◌}
-use Prim.Native.Nat.{◌-◌}
 use native.Mathlib.Omega.{arith}
 use Rattle.model.specs.Rules.{due, full}
 use Rattle.model.specs.Storage.{gaps_of}
@@ -8,8 +7,7 @@ use Rattle.model.proofs.Laid.{length-gaps_of}
 use Rattle.packet_gaps.specs.Gaps.{gap, instants_fit}
 use Rattle.packet_gaps.proofs.Laws.{no_gap, due_as}
 use Rattle.packet_gaps.proofs.Turns.{every-at}
-use Rattle.packet_gaps.proofs.Writing.{none-at, nacked_here, nacked_all, Wiring, wiring_none, wiring_follows, wiring_due, wiring_skip, wiring_all, wiring_bytes}
-use borrow.Author.Rules.{rules}
+use Rattle.packet_gaps.proofs.Writing.{none-at, nacked_here, nacked_all, wiring_none, wiring_follows, wiring_due, wiring_skip, wiring_all, wiring_bytes}
 use Rattle.packet_gaps.proofs.nacks.poll_wire.Goals as goal
 
 pub loop-i-init : goal.loop-i-init

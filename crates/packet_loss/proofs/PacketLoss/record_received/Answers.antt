@@ -1,5 +1,4 @@
 -- `record_received`: the callee's equation, at 0.
-use borrow.Author.Rules.{rules}
 use Rattle.packet_loss.specs.Loss.{record_received}
 use Rattle.packet_loss.proofs.PacketLoss.record_received.Goals as goal
 

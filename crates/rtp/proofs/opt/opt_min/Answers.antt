@@ -1,5 +1,5 @@
 -- `opt_min` meets its contract: each arm of the match is a line of the definition.
-use Rattle.std.proofs.Common.{◌≡◌, min, arith, rules}
+use Rattle.std.proofs.Common.{◌≡◌, min, arith}
 use Rattle.rtp.specs.Opt.{opt_min}
 use Rattle.rtp.proofs.opt.opt_min.Goals as goal
 

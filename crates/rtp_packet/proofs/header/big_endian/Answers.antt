@@ -1,6 +1,6 @@
 -- `header::big_endian` meets its contract: after i turns the number is that of the first i bytes, and `big_endian-lt` says that it fits.
 use mathlib.Core.Path.{◌≡◌}
-use Prim.Native.Nat.{◌≤◌, ◌+◌, ◌-◌}
+use Prim.Native.Nat.{◌+◌}
 use native.Mathlib.Omega.{arith}
 use borrow.Author.Rules.{rules}
 use Rattle.rtp_packet.specs.Header.{big_endian}

@@ -1,10 +1,7 @@
 -- `header::big_endian` meets its contract: after i turns the number is that of the first i bytes, and `big_endian-lt` says that it fits.
 use mathlib.Core.Path.{◌≡◌}
-use Prim.Native.Nat.{◌≤◌, ◌+◌, ◌-◌}
-use native.Mathlib.Omega.{arith}
-use borrow.Author.Rules.{rules}
+use Prim.Native.Nat.{◌≤◌, ◌-◌}
 use Rattle.rtp_packet.specs.Header.{big_endian}
-use Rattle.rtp_packet.proofs.BigEndian.{big_endian_next, big_endian-lt, big_endian-within}
 use Rattle.rtp_packet.proofs.header.big_endian.Given as goal
 
 abbrev pub invariant-loop-i : goal.invariant-loop-i

@@ -1,6 +1,5 @@
 -- `header::bit_at` meets its contract: the shift divides by the bit's weight.
 use Rattle.rtp_packet.specs.Header.{bit}
-use borrow.Author.Rules.{rules}
 use Rattle.rtp_packet.proofs.header.bit_at.Goals as goal
 
 pub returns : goal.returns

@@ -1,6 +1,5 @@
 -- `header::byte_at` meets its contract: past the end `get_or` gives its default.
 use mathlib.Core.Path.{sym}
-use borrow.Author.Rules.{rules}
 use lib.ListN.{get_or-eq_default}
 use Rattle.rtp_packet.proofs.header.byte_at.Goals as goal
 

@@ -2,7 +2,6 @@
 use mathlib.Core.Path.{sym, ◌∙◌}
 use native.Mathlib.Omega.{arith}
 use Rattle.rtp_packet.specs.Header.{extension_length, header_length}
-use borrow.Author.Rules.{rules}
 use Rattle.rtp_packet.proofs.header.header_length.Goals as goal
 
 pub returns-then-has_extension : goal.returns-then-has_extension

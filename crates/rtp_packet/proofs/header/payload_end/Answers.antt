@@ -1,7 +1,6 @@
 -- `header::payload_end` meets its contract: the definition's difference stops at 0.
 use native.Mathlib.Omega.{arith}
 use Rattle.rtp_packet.specs.Header.{payload_end}
-use borrow.Author.Rules.{rules}
 use Rattle.rtp_packet.proofs.header.payload_end.Goals as goal
 
 pub returns-then-count-d : goal.returns-then-count-d

@@ -1,6 +1,5 @@
 -- `in_range`: each arm is a line of the definition.
 use Rattle.rtx_state.specs.RoundTrip.{opt_rtt_in_range}
-use Rattle.std.proofs.Common.{rules}
 use Rattle.rtx_state.proofs.OptRtt.in_range.Goals as goal
 
 pub returns-in-None : goal.returns-in-None

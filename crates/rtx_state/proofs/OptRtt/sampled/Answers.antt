@@ -1,6 +1,5 @@
 -- `sampled`: each arm is a line of the definition.
 use Rattle.rtx_state.specs.RoundTrip.{sampled_rtt}
-use Rattle.std.proofs.Common.{rules}
 use Rattle.rtx_state.proofs.OptRtt.sampled.Goals as goal
 
 pub returns-in-None : goal.returns-in-None

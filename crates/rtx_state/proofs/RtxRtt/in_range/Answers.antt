@@ -1,5 +1,4 @@
 -- `in_range`: the definition, with what the callee says of each number.
-use Rattle.std.proofs.Common.{rules}
 use Rattle.rtx_state.specs.RoundTrip.{rtt_in_range}
 use Rattle.rtx_state.proofs.RtxRtt.in_range.Goals as goal
 

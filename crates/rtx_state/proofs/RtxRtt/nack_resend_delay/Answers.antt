@@ -1,5 +1,5 @@
 -- `nack_resend_delay`: the definition, with what the callees say.
-use Rattle.std.proofs.Common.{◌≡◌, ℕ, ap, ◌∙◌, rules}
+use Rattle.std.proofs.Common.{◌≡◌, ℕ, ap, ◌∙◌}
 use lib.Ieee.{binary64, add, mul}
 use Rattle.durations.specs.Seconds.{as_secs_f64, nanos_from_secs}
 use Rattle.rtx_state.specs.RoundTrip.{three_halves, measured_delay, larger, least_resend_delay, nack_resend_delay}

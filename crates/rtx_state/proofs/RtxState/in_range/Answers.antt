@@ -1,5 +1,4 @@
 -- `in_range`: the definition, with what the callees say of the estimate and of each counter.
-use Rattle.std.proofs.Common.{rules}
 use Rattle.rtx_state.specs.Repair.{rtx_in_range}
 use Rattle.rtx_state.proofs.RtxState.in_range.Goals as goal
 

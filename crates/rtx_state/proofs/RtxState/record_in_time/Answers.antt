@@ -1,6 +1,5 @@
 -- `record_in_time`: the sums are those of the definition.
 use Rattle.rtx_state.specs.Repair.{record_in_time}
-use Rattle.std.proofs.Common.{rules}
 use Rattle.rtx_state.proofs.RtxState.record_in_time.Goals as goal
 
 pub returns : goal.returns

@@ -1,6 +1,5 @@
 -- `stats`: the fields, and what `srtt_of` says.
 use Rattle.rtx_state.specs.Repair.{rtx_stats}
-use Rattle.std.proofs.Common.{rules}
 use Rattle.rtx_state.proofs.RtxState.stats.Goals as goal
 
 pub returns : goal.returns

@@ -1,9 +1,6 @@
 -- `words::octets::clear` meets its contract: each turn writes one of as many zeros.
-use Prim.Native.Nat.{◌-◌}
 use native.Mathlib.Omega.{arith}
-use lib.ListN.{length, replicate}
-use Rattle.words.proofs.Loops.{Writing, clearing_none, clearing_more, clearing_all}
-use borrow.Author.Rules.{rules}
+use Rattle.words.proofs.Loops.{clearing_none, clearing_more, clearing_all}
 use Rattle.words.proofs.octets.clear.Goals as goal
 
 pub loop-i-init : goal.loop-i-init

@@ -1,9 +1,7 @@
 -- `words::octets::clear` meets its contract: each turn writes one of as many zeros.
 use Prim.Native.Nat.{◌-◌}
-use native.Mathlib.Omega.{arith}
 use lib.ListN.{length, replicate}
-use Rattle.words.proofs.Loops.{Writing, clearing_none, clearing_more, clearing_all}
-use borrow.Author.Rules.{rules}
+use Rattle.words.proofs.Loops.{Writing}
 use Rattle.words.proofs.octets.clear.Given as goal
 
 abbrev pub invariant-loop-i : goal.invariant-loop-i

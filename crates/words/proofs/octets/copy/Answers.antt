@@ -1,11 +1,8 @@
 -- `words::octets::copy` meets its contract: each turn writes the next of `src`.
 use mathlib.Core.Path.{◌∙◌, refl}
-use Prim.Native.Nat.{◌-◌}
 use native.Mathlib.Omega.{arith}
-use lib.ListN.{length}
 use lib.Seq.{take-length}
-use Rattle.words.proofs.Loops.{Writing, writing_none, writing_more, writing_all}
-use borrow.Author.Rules.{rules}
+use Rattle.words.proofs.Loops.{writing_none, writing_more, writing_all}
 use Rattle.words.proofs.octets.copy.Goals as goal
 
 pub loop-i-init : goal.loop-i-init

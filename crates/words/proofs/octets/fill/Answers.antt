@@ -7,7 +7,6 @@ use lib.ListN.{length, take}
 use Rattle.words.specs.Words.{padded}
 use Rattle.words.proofs.Over.{length_over}
 use Rattle.words.proofs.Moves.{copied}
-use borrow.Author.Rules.{rules}
 use Rattle.words.proofs.octets.fill.Goals as goal
 
 pub returns : goal.returns

@@ -4,7 +4,6 @@ use Prim.Native.Nat.{◌+◌, ◌-◌}
 use native.Mathlib.Omega.{arith}
 use Rattle.words.specs.Words.{written, padded}
 use Rattle.words.proofs.Moves.{filled, raised, put_in, length-padded}
-use borrow.Author.Rules.{rules}
 use Rattle.words.proofs.octets.insert_place.Goals as goal
 
 pub returns : goal.returns

@@ -1,7 +1,5 @@
 -- `words::octets::raise` meets its contract: each turn, the last word first, writes one that no turn before has written.
-use native.Mathlib.Omega.{arith}
-use Rattle.words.proofs.Loops.{Raising, raising_none, raising_more, raising_all}
-use borrow.Author.Rules.{rules}
+use Rattle.words.proofs.Loops.{Raising}
 use Rattle.words.proofs.octets.raise.Given as goal
 
 abbrev pub invariant-loop-i : goal.invariant-loop-i

@@ -1,7 +1,6 @@
 -- `words::octets::remove` meets its contract: the words after those that go are moved down, and as many places cleared.
 use native.Mathlib.Omega.{arith}
 use Rattle.words.proofs.Moves.{removed}
-use borrow.Author.Rules.{rules}
 use Rattle.words.proofs.octets.remove.Goals as goal
 
 pub returns : goal.returns

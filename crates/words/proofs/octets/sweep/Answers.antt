@@ -1,5 +1,4 @@
 -- `words::octets::sweep` meets its contract: what is not cleared has nothing but zeros.
-use borrow.Author.Rules.{rules}
 use Rattle.words.proofs.octets.sweep.Goals as goal
 
 pub returns-else-gathered-ne0 : goal.returns-else-gathered-ne0

@@ -6,7 +6,6 @@ use lib.ListN.{take, drop, length-take}
 use lib.Seq.{take-take}
 use Rattle.words.specs.Words.{padded}
 use Rattle.words.proofs.Moves.{filled}
-use borrow.Author.Rules.{rules}
 use Rattle.words.proofs.octets.tidy_place.Goals as goal
 
 pub returns : goal.returns

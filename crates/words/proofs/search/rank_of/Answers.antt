@@ -5,10 +5,8 @@ use native.Mathlib.Nat.{mul-le-mul_left}
 use native.Mathlib.Omega.{arith}
 use lib.ListN.{length}
 use Rattle.words.specs.Blocks.{firsts}
-use Rattle.words.specs.Order.{rank}
 use Rattle.words.proofs.Blocked.{step, length-firsts, rank_past, rank-upto}
 use Rattle.words.proofs.Ordered.{rank-le}
-use borrow.Author.Rules.{rules}
 use Rattle.words.proofs.search.rank_of.Goals as goal
 
 -- the place of a record before the n-th is within the slice

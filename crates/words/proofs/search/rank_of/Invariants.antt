@@ -1,14 +1,7 @@
 -- `words::search::rank_of` meets its contract: the rank lies between `low` and `high`, and each turn moves one of them to the middle.
-use Prim.Native.Nat.{ℕ, ◌+◌, ◌*◌, ◌-◌, ◌/◌, ◌≤◌, ◌<◌}
-use mathlib.Core.List.{List}
-use native.Mathlib.Nat.{mul-le-mul_left}
-use native.Mathlib.Omega.{arith}
-use lib.ListN.{length}
+use Prim.Native.Nat.{◌-◌, ◌≤◌}
 use Rattle.words.specs.Blocks.{firsts}
 use Rattle.words.specs.Order.{rank}
-use Rattle.words.proofs.Blocked.{step, length-firsts, rank_past, rank-upto}
-use Rattle.words.proofs.Ordered.{rank-le}
-use borrow.Author.Rules.{rules}
 use Rattle.words.proofs.search.rank_of.Given as goal
 
 abbrev pub invariant-loop-low : goal.invariant-loop-low
