@@ -23,10 +23,10 @@ use Rattle.model.specs.declared.Config.{Config}
 use Rattle.model.specs.Lists.{keep, some?}
 use Rattle.model.specs.Records.{Entry, Gap, State, highest_of}
 use Rattle.model.specs.Rules.{is, below, without, Place, waits, between, fresh, gaps_from, gaps_after, timings_in, estimate_in, due_at, due, nacked, nacked_if_due, overfull, not_given_up}
-use Rattle.model.specs.Push.{media_place, heard, last_after, after_queued, after_dropped, front_out_of, within_depth, media_entry_of, after_placed, after_media, Fate, tooLate, recovered, redundant, repair_entry, repair_fate, after_fate, after_repair}
+use Rattle.model.specs.Push.{media_place, heard, last_after, after_queued, after_dropped, front_out_of, within_depth, media_entry_of, after_placed, after_media, Fate, too_late, recovered, redundant, repair_entry, repair_fate, after_fate, after_repair}
 use Rattle.model.specs.Poll.{drained, lose, going_out, hand_out, after_poll, due_gaps, nack_numbers, nack_entries_of, nack_all, after_poll_nack, timings_of}
 use Rattle.model.specs.Storage.{parse}
-use Rattle.model.specs.Calls.{Call, media, repair, poll, pollNack, nack_wire, timeout_receive, timeoutNack, rtx_stats, highestReceived, taken, output_after}
+use Rattle.model.specs.Calls.{Call, media, repair, poll, poll_nack, nack_wire, timeout_receive, timeout_nack, rtx_stats, highest_received, taken, output_after}
 use Rattle.model.specs.Table.{call_refusal, media_refusal, repair_refusal, poll_refusal, poll_nack_refusal, refusal}
 use Rattle.model.specs.Did.{did, accepted}
 use Rattle.model.proofs.Lists.{by_cases, by_or, no_eqb, Each, none, more, each_imp, each_both, each_append, each_keep, each_kept, each_map, each_following, Rising, rising_rest, rising_first, holds_of_some}
@@ -75,7 +75,7 @@ module _ (from n : ℕ) where
 
     fate_since : (e : Entry) (f : Fate) → Since from n (after_fate now e f s)
     unfolding after_fate without
-    fate_since e tooLate = record { by = omega (arith, i.by); reached = i.reached; asked = i.asked }
+    fate_since e too_late = record { by = omega (arith, i.by); reached = i.reached; asked = i.asked }
     fate_since e redundant = record { by = omega (arith, i.by); reached = i.reached; asked = i.asked }
     fate_since e recovered = record { by = omega (arith, i.by); reached = i.reached; asked = each_keep (λ (g : Gap). not (is e.number g)) i.asked }
 
@@ -121,14 +121,14 @@ module _ (from n : ℕ) where
       let x = repair_entry d s.queue in fate_since now s i (clock_of s.queue now (or_else-none _ _ e).0).0 x (repair_fate s x.number)
   taken_since (poll now out) s e i =
       hand_since (going_out now s s.entries) (drained now s) (drained_since now s i (clock_of s.queue now (or_else-none _ _ (or_else-none _ _ e).1).0).0)
-  taken_since (pollNack now out) s e i =
+  taken_since (poll_nack now out) s e i =
       nack_since now (drained now s) refl (drained_since now s i (clock_of s.queue now (or_else-none _ _ (or_else-none _ _ e).1).0).0)
   taken_since (nack_wire now out) s e i =
       nack_since now (drained now s) refl (drained_since now s i (clock_of s.queue now (or_else-none _ _ (or_else-none _ _ e).1).0).0)
   taken_since (timeout_receive now) s e i = i
-  taken_since (timeoutNack now) s e i = i
+  taken_since (timeout_nack now) s e i = i
   taken_since rtx_stats s e i = i
-  taken_since highestReceived s e i = i
+  taken_since highest_received s e i = i
 
   next_since : {c : Config} {x : View} {k : Call} {y : View} → Next c x k y → Since from n x.state → Since from n y.state
   unfolding after
@@ -240,7 +240,7 @@ nacks-apart =
           λ c t ks now out o e.
           let x = calls c ks in
           let k = kept (ran c t ks o) in
-          rw (eq-eqb (refusal (pollNack now out) x.stored) 0 e, named-is now k.inv.same) refl;
+          rw (eq-eqb (refusal (poll_nack now out) x.stored) 0 e, named-is now k.inv.same) refl;
       wired =
           λ c t ks now out o e.
           let x = calls c ks in

@@ -25,11 +25,11 @@ use Rattle.model.specs.Lists.{some?}
 use Rattle.model.specs.Records.{Entry, Gap, State, highest_of, last_timestamp_of}
 use Rattle.model.specs.Rules.{extended, is, max_gap_size, Place, first, near, far, fills, other, place_of, waits, overfull}
 use Rattle.model.specs.Push as P
-use Rattle.model.specs.Push.{extended_number, extended_timestamp, media_entry_of, media_place, heard, last_after, after_queued, after_dropped, front_out_of, after_placed, after_media, Fate, tooLate, recovered, redundant, repair_entry, repair_fate, after_fate, after_repair}
+use Rattle.model.specs.Push.{extended_number, extended_timestamp, media_entry_of, media_place, heard, last_after, after_queued, after_dropped, front_out_of, after_placed, after_media, Fate, too_late, recovered, redundant, repair_entry, repair_fate, after_fate, after_repair}
 use Rattle.model.specs.Poll.{drained, lose, going_out, hand_out, after_poll, nack_all, after_poll_nack}
 use Rattle.model.specs.Valid.{last_sound}
 use Rattle.model.specs.Storage.{Storage, parse}
-use Rattle.model.specs.Calls.{Call, media, repair, poll, pollNack, nack_wire, timeout_receive, timeoutNack, rtx_stats, highestReceived, Answer, queued, dropped, taken, placed_answer, answered}
+use Rattle.model.specs.Calls.{Call, media, repair, poll, poll_nack, nack_wire, timeout_receive, timeout_nack, rtx_stats, highest_received, Answer, queued, dropped, taken, placed_answer, answered}
 use Rattle.model.specs.Did.{did}
 use Rattle.model.proofs.Lists.{by_cases}
 use Rattle.model.proofs.Sound.{ListsOf}
@@ -150,7 +150,7 @@ module _ (now : ℕ) (d : List ℕ) {c : Config} {s : State} {b : Book} (same : 
 
 fate-last : (now : ℕ) (e : Entry) (f : Fate) (s : State) → (after_fate now e f s).queue.last ≡ s.queue.last
 unfolding after_fate
-fate-last now e tooLate s = refl
+fate-last now e too_late s = refl
 fate-last now e redundant s = refl
 fate-last now e recovered s = refl
 
@@ -179,12 +179,12 @@ begun-taken (repair now d) {s = s} {b = b} same l i =
     (λ t. rw (fate-last now e (repair_fate s e.number) s) i)
     (λ t. rw (fate-last now e (repair_fate s e.number) s) i)
 begun-taken (poll now out) {c = c} {s = s} {b = b} same l i = rw (hear_poll s.queue (going_out now s s.entries), poll_span, hand_last) i
-begun-taken (pollNack now out) same l i = rw hear-nack i
+begun-taken (poll_nack now out) same l i = rw hear-nack i
 begun-taken (nack_wire now out) same l i = i
 begun-taken (timeout_receive now) same l i = i
-begun-taken (timeoutNack now) same l i = i
+begun-taken (timeout_nack now) same l i = i
 begun-taken rtx_stats same l i = i
-begun-taken highestReceived same l i = i
+begun-taken highest_received same l i = i
 
 begun_next : {c : Config} {x : View} {k : Call} {y : View} → Ran c x → Begun x.book.span x.state.queue.last → Next c x k y → Begun y.book.span y.state.queue.last
 unfolding Begun after

@@ -18,10 +18,10 @@ use Rattle.rtp.specs.Opt.{number_of}
 use Rattle.model.specs.Records.{Entry, Gap, State, entry_numbers, gap_numbers}
 use Rattle.model.specs.Rules.{is, Place, place_of, waits, max_gap_size, overfull, given_up_of, lost_below_of}
 use Rattle.model.specs.Push as P
-use Rattle.model.specs.Push.{insert_sorted, media_entry_of, media_place, heard, count_dropped, count_received, after_queued, after_dropped, front_out_of, after_media, Fate, tooLate, recovered, redundant, repair_entry, repair_fate, after_fate, after_repair}
+use Rattle.model.specs.Push.{insert_sorted, media_entry_of, media_place, heard, count_dropped, count_received, after_queued, after_dropped, front_out_of, after_media, Fate, too_late, recovered, redundant, repair_entry, repair_fate, after_fate, after_repair}
 use Rattle.model.specs.Poll.{lose, count_lost, drained, ready, hands_out, going_out, hand_out, after_poll, after_poll_nack}
 use Rattle.model.specs.Poll as Q
-use Rattle.model.specs.Calls.{Call, media, repair, poll, pollNack, nack_wire, timeout_receive, timeoutNack, rtx_stats, highestReceived, queued, dropped, packet_of, handed, nack_answer, taken, answered}
+use Rattle.model.specs.Calls.{Call, media, repair, poll, poll_nack, nack_wire, timeout_receive, timeout_nack, rtx_stats, highest_received, queued, dropped, packet_of, handed, nack_answer, taken, answered}
 use Rattle.model.proofs.Lists.{by_cases, Each, each_first, each_imp, each_insert}
 use Rattle.book.specs.Book as B
 use Rattle.book.specs.Book.{Heard, refused, accepted, Span, none, from_to, Book, arrive, forgotten_by, push_out_of, within_depth, on_media, recover, on_repair, give_up, take_lowest, on_poll, read, enter}
@@ -86,7 +86,7 @@ media_counts now d s =
 
 repair_counts : (now : ℕ) (x : Entry) (f : Fate) (s : State) → (after_fate now x f s).queue.counters.lost ≡ s.queue.counters.lost
 unfolding after_fate
-repair_counts now x tooLate s = refl
+repair_counts now x too_late s = refl
 repair_counts now x recovered s = refl
 repair_counts now x redundant s = refl
 
@@ -129,12 +129,12 @@ unfoldable pub out_of : Call → State → List ℕ
 out_of (media now d) s = []
 out_of (repair now d) s = []
 out_of (poll now lent) s = entry_numbers (going_out now s s.entries)
-out_of (pollNack now lent) s = []
+out_of (poll_nack now lent) s = []
 out_of (nack_wire now lent) s = []
 out_of (timeout_receive now) s = []
-out_of (timeoutNack now) s = []
+out_of (timeout_nack now) s = []
 out_of rtx_stats s = []
-out_of highestReceived s = []
+out_of highest_received s = []
 
 given_media : (b : Bool) → given (cond b queued dropped) ≡ []
 unfolding given
@@ -158,12 +158,12 @@ unfolding answered out_of given
 given_out (media now d) s = given_media (waits (media_place s (media_entry_of now d s.queue).number))
 given_out (repair now d) s = refl
 given_out (poll now lent) s = given_poll now s s.entries
-given_out (pollNack now lent) s = given-nack (length (Q.due_gaps now s.queue s.gaps))
+given_out (poll_nack now lent) s = given-nack (length (Q.due_gaps now s.queue s.gaps))
 given_out (nack_wire now lent) s = refl
 given_out (timeout_receive now) s = refl
-given_out (timeoutNack now) s = refl
+given_out (timeout_nack now) s = refl
 given_out rtx_stats s = refl
-given_out highestReceived s = refl
+given_out highest_received s = refl
 
 -- ---- any call
 
@@ -172,16 +172,16 @@ unfolding taken answered hear enter out_of after_repair after_poll after_poll_na
 moved-beside (media now d) s b = rw hear_media (still (media_keeps s.queue.config now _ _ (beside s b)) (media_counts now d s))
 moved-beside (repair now d) s b = still (repair_keeps now _ (beside s b)) (repair_counts now (repair_entry d s.queue) (repair_fate s (repair_entry d s.queue).number) s)
 moved-beside (poll now lent) s b = rw (hear_poll s.queue (going_out now s s.entries)) (out_moves now s b s.entries)
-moved-beside (pollNack now lent) s b =
+moved-beside (poll_nack now lent) s b =
     let m = drained-moves now s b in
     rw hear-nack (record { handed = m.handed; newly = m.newly; lost = m.lost; counted = m.counted })
 moved-beside (nack_wire now lent) s b =
     let m = drained-moves now s b in
     record { handed = m.handed; newly = m.newly; lost = m.lost; counted = m.counted }
 moved-beside (timeout_receive now) s b = still (refl, refl) refl
-moved-beside (timeoutNack now) s b = still (refl, refl) refl
+moved-beside (timeout_nack now) s b = still (refl, refl) refl
 moved-beside rtx_stats s b = still (refl, refl) refl
-moved-beside highestReceived s b = still (refl, refl) refl
+moved-beside highest_received s b = still (refl, refl) refl
 
 pub moved-taken : (k : Call) {c : Config} {s : State} {b : Book} → Same c s b → Moved s b (taken k s) (enter c k (hear (answered k s)) b) (out_of k s)
 moved-taken k {c} {s} {b} same =
@@ -221,7 +221,7 @@ module _ (s : State) (out : List ℕ) (l : ListsOf s) (past : PastOf s.queue.con
 
   repair_past : (now : ℕ) (x : Entry) (fate : Fate) → PastOf mode out (after_fate now x fate s)
   unfolding after_fate
-  repair_past now x tooLate = past_forget mode (number_of s.queue.returned) x.number out s.remembered past
+  repair_past now x too_late = past_forget mode (number_of s.queue.returned) x.number out s.remembered past
   repair_past now x recovered = past
   repair_past now x redundant = past
 
@@ -243,12 +243,12 @@ module _ (s : State) (out : List ℕ) (l : ListsOf s) (past : PastOf s.queue.con
   past_call (media now d) = rw append-nil (media_past now d)
   past_call (repair now d) = rw append-nil (repair_past now (repair_entry d s.queue) (repair_fate s (repair_entry d s.queue).number))
   past_call (poll now lent) = poll_past now s.entries entries-above
-  past_call (pollNack now lent) = rw append-nil past
+  past_call (poll_nack now lent) = rw append-nil past
   past_call (nack_wire now lent) = rw append-nil past
   past_call (timeout_receive now) = rw append-nil past
-  past_call (timeoutNack now) = rw append-nil past
+  past_call (timeout_nack now) = rw append-nil past
   past_call rtx_stats = rw append-nil past
-  past_call highestReceived = rw append-nil past
+  past_call highest_received = rw append-nil past
 
 pub past_taken : (k : Call) {c : Config} {s : State} {b : Book} → Same c s b → ListsOf s → PastOf c.settings.mode b.handed s → PastOf c.settings.mode (enter c k (hear (answered k s)) b).handed (taken k s)
 past_taken k {c} {s} {b} same f =
@@ -306,9 +306,9 @@ enter-forgets c (media now d) (accepted out) b = go (media_forgets c now (read b
     go (inr f) = inr (by_media f)
 enter-forgets c (repair now d) (accepted out) b = inl (repair_forgets now (read b (original_number (payload_of d))) b)
 enter-forgets c (poll now lent) (accepted out) b = inl (poll_forgets c out b)
-enter-forgets c (pollNack now lent) (accepted out) b = inl refl
+enter-forgets c (poll_nack now lent) (accepted out) b = inl refl
 enter-forgets c (nack_wire now lent) (accepted out) b = inl refl
 enter-forgets c (timeout_receive now) (accepted out) b = inl refl
-enter-forgets c (timeoutNack now) (accepted out) b = inl refl
+enter-forgets c (timeout_nack now) (accepted out) b = inl refl
 enter-forgets c rtx_stats (accepted out) b = inl refl
-enter-forgets c highestReceived (accepted out) b = inl refl
+enter-forgets c highest_received (accepted out) b = inl refl

@@ -25,7 +25,7 @@ use Rattle.model.specs.Push as P
 use Rattle.model.specs.Push.{passed, insert_sorted, extended_number, media_entry_of, heard, last_after, after_queued, after_dropped, front_out_of, after_media, repair_entry, repair_fate, after_fate, after_repair}
 use Rattle.model.specs.Poll as Q
 use Rattle.model.specs.Poll.{drained, lose, hands_out, going_out, ready, hand_out, after_poll, after_poll_nack}
-use Rattle.model.specs.Calls.{Call, media, repair, poll, pollNack, nack_wire, timeout_receive, timeoutNack, rtx_stats, highestReceived, queued, dropped, nack_answer, handed, taken, answered}
+use Rattle.model.specs.Calls.{Call, media, repair, poll, poll_nack, nack_wire, timeout_receive, timeout_nack, rtx_stats, highest_received, queued, dropped, nack_answer, handed, taken, answered}
 use Rattle.model.proofs.Lists.{by_cases}
 use Rattle.book.specs.Sorted.{put_in}
 use Rattle.book.specs.Book as B
@@ -220,12 +220,12 @@ module _ (s : State) (b : Book) (e : highest_of s.queue.last ≡ B.highest b.spa
   same-beside-taken (media now d) out p = rw hear_media (same_media now d)
   same-beside-taken (repair now d) out p = same-after_repair now d out p
   same-beside-taken (poll now lent) out p = rw (hear_poll s.queue (going_out now s s.entries)) (same_out now s b e s.entries refl)
-  same-beside-taken (pollNack now lent) out p = rw hear-nack (same-nack_all now (same-drained now s b e))
+  same-beside-taken (poll_nack now lent) out p = rw hear-nack (same-nack_all now (same-drained now s b e))
   same-beside-taken (nack_wire now lent) out p = same-nack_all now (same-drained now s b e)
   same-beside-taken (timeout_receive now) out p = same_beside s b e
-  same-beside-taken (timeoutNack now) out p = same_beside s b e
+  same-beside-taken (timeout_nack now) out p = same_beside s b e
   same-beside-taken rtx_stats out p = same_beside s b e
-  same-beside-taken highestReceived out p = same_beside s b e
+  same-beside-taken highest_received out p = same_beside s b e
 
 pub same_taken : (k : Call) {c : Config} {s : State} {b : Book} → Same c s b → ListsOf s → Past c.settings.mode (number_of s.queue.returned) b.handed s.remembered
     → Same c (taken k s) (enter c k (hear (answered k s)) b)

@@ -14,7 +14,7 @@ use Rattle.config.specs.declared.Settings.{Settings}
 use Rattle.model.specs.Lists.{following, some?}
 use Rattle.model.specs.Records.{gap_numbers}
 use Rattle.model.specs.Rules.{is, gaps_below, Place, first, near, far, fills, place_of, waits, between, fresh, gaps_after, max_gap_size, overfull, given_up_of, lost_below_of}
-use Rattle.model.specs.Calls.{Call, media, repair, poll, pollNack, nack_wire, timeout_receive, timeoutNack, rtx_stats, highestReceived}
+use Rattle.model.specs.Calls.{Call, media, repair, poll, poll_nack, nack_wire, timeout_receive, timeout_nack, rtx_stats, highest_received}
 use Rattle.model.proofs.Lists.{by_cases}
 use Rattle.book.specs.Book.{Heard, refused, accepted, Span, none, from_to, highest, Book, empty, span_after, forgotten_by, arrive, push_out_of, within_depth, on_media, recover, not_missing, on_repair, give_up, take_lowest, on_poll, nack_all, read, enter, all_of, expected}
 use Rattle.book.proofs.Count.{same, count, count_append, count-put_in, count_one, count_cons, count_nil, following_append, count-following-le}
@@ -210,9 +210,9 @@ tally_enter c k refused b t = t
 tally_enter c (media now d) (accepted out) b t = tally_media c now (read b (sequence_number d)) b b.span refl t
 tally_enter c (repair now d) (accepted out) b t = tally_repair now (read b (original_number (payload_of d))) b t
 tally_enter c (poll now lent) (accepted out) b t = tally_poll c out b t
-tally_enter c (pollNack now lent) (accepted out) b t = tally_nack_all c now (give_up c b) (tally_give_up c b t)
+tally_enter c (poll_nack now lent) (accepted out) b t = tally_nack_all c now (give_up c b) (tally_give_up c b t)
 tally_enter c (nack_wire now lent) (accepted out) b t = tally_nack_all c now (give_up c b) (tally_give_up c b t)
 tally_enter c (timeout_receive now) (accepted out) b t = t
-tally_enter c (timeoutNack now) (accepted out) b t = t
+tally_enter c (timeout_nack now) (accepted out) b t = t
 tally_enter c rtx_stats (accepted out) b t = t
-tally_enter c highestReceived (accepted out) b t = t
+tally_enter c highest_received (accepted out) b t = t

@@ -24,7 +24,7 @@ use Rattle.model.specs.Lists.{some?}
 use Rattle.model.specs.Rules.{is, Place, place_of, waits, overfull, gap_nacked_at, lost_nacked_at, sampled_at}
 use Rattle.model.specs.Poll.{repair_figures_of}
 use Rattle.model.specs.Storage.{Stored, parse}
-use Rattle.model.specs.Calls.{Call, media, repair, poll, pollNack, nack_wire, timeout_receive, timeoutNack, rtx_stats, highestReceived, stats, answered}
+use Rattle.model.specs.Calls.{Call, media, repair, poll, poll_nack, nack_wire, timeout_receive, timeout_nack, rtx_stats, highest_received, stats, answered}
 use Rattle.model.specs.Table.{refusal}
 use Rattle.model.specs.Did.{did, accepted, turned_back}
 use Rattle.model.proofs.Lists.{by_cases}
@@ -83,12 +83,12 @@ enter-moves c (media now d) (B.accepted out) b =
     let n = read b (sequence_number d) in on_media-moves c now n (place_of (B.highest b.span) b.missing n) b
 enter-moves c (repair now d) (B.accepted out) b = on_repair-moves now (read b (original_number (payload_of d))) b
 enter-moves c (poll now lent) (B.accepted out) b = on_poll-moves c out b
-enter-moves c (pollNack now lent) (B.accepted out) b = refl
+enter-moves c (poll_nack now lent) (B.accepted out) b = refl
 enter-moves c (nack_wire now lent) (B.accepted out) b = refl
 enter-moves c (timeout_receive now) (B.accepted out) b = refl
-enter-moves c (timeoutNack now) (B.accepted out) b = refl
+enter-moves c (timeout_nack now) (B.accepted out) b = refl
 enter-moves c rtx_stats (B.accepted out) b = refl
-enter-moves c highestReceived (B.accepted out) b = refl
+enter-moves c highest_received (B.accepted out) b = refl
 
 -- ---- any list of calls
 

@@ -11,7 +11,7 @@ use Rattle.model.specs.declared.Config.{Config}
 use Rattle.model.specs.Lists.{following, some?}
 use Rattle.model.specs.Records.{Gap, Remembered, gap_numbers}
 use Rattle.model.specs.Rules.{extended, is, without, gaps_below, gaps_from, Place, first, near, far, fills, other, place_of, waits, between, gaps_after, timings_in, nack_due, gap_nacked_at, lost_nacked_at, sampled_at, forget_first, overfull, remembered_after, given_up_of, not_given_up, lost_below_of, left_from_of}
-use Rattle.model.specs.Calls.{Call, media, repair, poll, pollNack, nack_wire, timeout_receive, timeoutNack, rtx_stats, highestReceived}
+use Rattle.model.specs.Calls.{Call, media, repair, poll, poll_nack, nack_wire, timeout_receive, timeout_nack, rtx_stats, highest_received}
 use Rattle.book.specs.Sorted.{put_in}
 
 -- What the book hears of an answer: the call was refused, or it was accepted, with whether it was a `poll` that handed out.
@@ -162,13 +162,13 @@ enter c (media now d) (accepted out) b =
     on_media c now n (place_of (highest b.span) b.missing n) b
 enter c (repair now d) (accepted out) b = on_repair now (read b (original_number (payload_of d))) b
 enter c (poll now lent) (accepted out) b = on_poll c out b
-enter c (pollNack now lent) (accepted out) b = nack_all c now (give_up c b)
+enter c (poll_nack now lent) (accepted out) b = nack_all c now (give_up c b)
 -- 02, point 1: "counted as a `poll_nack` wherever a rule names one, the lost numbers included"
 enter c (nack_wire now lent) (accepted out) b = nack_all c now (give_up c b)
 enter c (timeout_receive now) (accepted out) b = b
-enter c (timeoutNack now) (accepted out) b = b
+enter c (timeout_nack now) (accepted out) b = b
 enter c rtx_stats (accepted out) b = b
-enter c highestReceived (accepted out) b = b
+enter c highest_received (accepted out) b = b
 
 -- ---- the two lists of demand 3
 

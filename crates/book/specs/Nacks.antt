@@ -9,7 +9,7 @@ use Rattle.nack_pairs.specs.Wire.{entries}
 use Rattle.model.specs.Records.{Gap, gap_numbers}
 use Rattle.model.specs.Rules.{is, due, truncated, timings_in, estimate_in, not_given_up}
 use Rattle.model.specs.Storage.{Storage}
-use Rattle.model.specs.Calls.{Call, pollNack, nack_wire}
+use Rattle.model.specs.Calls.{Call, poll_nack, nack_wire}
 use Rattle.model.specs.Table.{refusal, opening_refusal}
 use Rattle.model.specs.Did.{did}
 use Rattle.book.specs.Book.{Book}
@@ -25,14 +25,14 @@ pub data Measured (c : Config) (b : Book) : Type 0 where
 
 -- a call of this instant that asks for what is due
 pub data Asks (now : ℕ) : Call → Type 0 where
-  in_a_list : (out : List ℕ) → Asks now (pollNack now out)
+  in_a_list : (out : List ℕ) → Asks now (poll_nack now out)
   on_the_wire : (out : List ℕ) → Asks now (nack_wire now out)
 
 pub record NacksApart : Type 0 where
   -- what goes out are their low 16 bits, in order
   pub listed :
-      (c : Config) (t : Storage) (ks : List Call) (now : ℕ) (out : List ℕ) → opening_refusal c t ≡ 0 → refusal (pollNack now out) (calls c ks).stored ≡ 0
-      → (did (pollNack now out) (calls c ks).stored).output ≡ over (map truncated (named_at c now (calls c ks).book)) out
+      (c : Config) (t : Storage) (ks : List Call) (now : ℕ) (out : List ℕ) → opening_refusal c t ≡ 0 → refusal (poll_nack now out) (calls c ks).stored ≡ 0
+      → (did (poll_nack now out) (calls c ks).stored).output ≡ over (map truncated (named_at c now (calls c ks).book)) out
   -- or the entries that name them
   pub wired :
       (c : Config) (t : Storage) (ks : List Call) (now : ℕ) (out : List ℕ) → opening_refusal c t ≡ 0 → refusal (nack_wire now out) (calls c ks).stored ≡ 0

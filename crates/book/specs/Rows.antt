@@ -28,7 +28,7 @@ pub data Question : Type 0 where
   samples : List ℕ → Question
   repair_payload : List ℕ → Question
   -- a gap that was never NACKed
-  nack_due : (initialDelay detected now : ℕ) → Question
+  nack_due : (initial_delay detected now : ℕ) → Question
   -- whether the srtt is less than so many nanoseconds below the recurrence, after these samples
   drift : (bound first : ℕ) → List ℕ → Question
 
@@ -84,10 +84,10 @@ rows =
 
 -- a session of depth D, with room for the fewest gaps that the opening takes; sender and payload type are 0
 abbrev pub config : ℕ → ℕ → Config
-config D initialDelay =
+config D initial_delay =
     record {
       settings =
-          record { mode = SortedQueue Fixed; clock_rate = 8000; max_entries = D; max_gaps = 999; delay = 100000000; initial_nack_delay = initialDelay; default_nack_resend_delay = 20000000; max_nack_attempts = 10 };
+          record { mode = SortedQueue Fixed; clock_rate = 8000; max_entries = D; max_gaps = 999; delay = 100000000; initial_nack_delay = initial_delay; default_nack_resend_delay = 20000000; max_nack_attempts = 10 };
       senders = record { pt = 0; ssrc = record { 0 = 0 }; has_rtx = true; rtx_pt = 1; rtx_ssrc = record { 0 = 1 } };
     }
 
@@ -109,7 +109,7 @@ answer (reference highest n) = number (extended 16 (Opt.Some highest) n)
 answer (counts D numbers) = counted (length (parse (received D numbers).stored).gaps) (length (received D numbers).book.forgotten)
 answer (lists D numbers) = listed (expected (received D numbers).book) (sort (accounted (received D numbers).book))
 answer (samples l) = estimate (foldl sampled_rtt OptRtt.None l)
-answer (nack_due initialDelay detected now) = is_due (due (timings_in (config 1 initialDelay) OptRtt.None) now (fresh detected 0))
+answer (nack_due initial_delay detected now) = is_due (due (timings_in (config 1 initial_delay) OptRtt.None) now (fresh detected 0))
 answer (drift bound r rs) =
     is_within (ltb (recurrence r rs).numerator ((srtt_in (foldl sampled_rtt OptRtt.None (r ∷ rs)) + bound) * (recurrence r rs).denominator))
 answer (repair_payload p) = cond (eqb (original_refusal p) 0) (original (original_number p) (original_payload p)) (refused (original_refusal p))

@@ -11,7 +11,7 @@ use Rattle.model.specs.declared.Config.{Config}
 use Rattle.model.specs.Lists.{some?}
 use Rattle.model.specs.Rules.{is, gap_nacked_at, lost_nacked_at}
 use Rattle.model.specs.Storage.{Storage}
-use Rattle.model.specs.Calls.{Call, media, repair, poll, pollNack, nack_wire, timeout_receive, timeoutNack, rtx_stats, highestReceived, stats}
+use Rattle.model.specs.Calls.{Call, media, repair, poll, poll_nack, nack_wire, timeout_receive, timeout_nack, rtx_stats, highest_received, stats}
 use Rattle.model.specs.Table.{opening_refusal}
 use Rattle.model.specs.Did.{did}
 use Rattle.book.specs.Book.{Heard, refused, accepted, Book, read}
@@ -31,12 +31,12 @@ yields k refused b = []
 yields (media now d) (accepted out) b = []
 yields (repair now d) (accepted out) b = sample_of now (read b (original_number (payload_of d))) b
 yields (poll now lent) (accepted out) b = []
-yields (pollNack now lent) (accepted out) b = []
+yields (poll_nack now lent) (accepted out) b = []
 yields (nack_wire now lent) (accepted out) b = []
 yields (timeout_receive now) (accepted out) b = []
-yields (timeoutNack now) (accepted out) b = []
+yields (timeout_nack now) (accepted out) b = []
 yields rtx_stats (accepted out) b = []
-yields highestReceived (accepted out) b = []
+yields highest_received (accepted out) b = []
 
 -- the samples that the calls yield, the oldest first
 unfoldable pub samples_from : Config → Run → List Call → List ℕ

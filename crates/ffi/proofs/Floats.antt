@@ -17,9 +17,9 @@ use Rattle.model.specs.declared.LastReceived.TheVariants as LastReceived
 use Rattle.model.specs.declared.Queue.{Queue}
 use Rattle.model.specs.Records.{Entry, State, new_queue, new_state}
 use Rattle.model.specs.Rules.{Place, waits, overfull}
-use Rattle.model.specs.Push.{Fate, tooLate, recovered, redundant, jitter_after, heard, after_dropped, after_queued, front_out_of, within_depth, after_placed, after_media, after_fate, after_repair}
+use Rattle.model.specs.Push.{Fate, too_late, recovered, redundant, jitter_after, heard, after_dropped, after_queued, front_out_of, within_depth, after_placed, after_media, after_fate, after_repair}
 use Rattle.model.specs.Poll.{lose, drained, going_out, hand_out, after_poll, nack_all, after_poll_nack}
-use Rattle.model.specs.Calls.{Call, media, repair, poll, pollNack, nack_wire, timeout_receive, timeoutNack, rtx_stats, highestReceived, taken}
+use Rattle.model.specs.Calls.{Call, media, repair, poll, poll_nack, nack_wire, timeout_receive, timeout_nack, rtx_stats, highest_received, taken}
 use Rattle.ffi_words.specs.Words.{FloatsFit}
 
 -- ---- a property of either branch
@@ -38,13 +38,13 @@ moved-fits : (x d : Float) → T (fits binary64 (moved x d))
 unfolding moved
 moved-fits x d = add-fits binary64 x (div binary64 (sub binary64 d x) (cond (lt x d) sixteen sixty_four))
 
-updated_fits : (j : Jitter) (now ts last lastTs : ℕ) → JitterFits j → JitterFits (jitter_updated j now ts last lastTs)
+updated_fits : (j : Jitter) (now ts last last_ts : ℕ) → JitterFits j → JitterFits (jitter_updated j now ts last last_ts)
 unfolding jitter_updated sampled
-updated_fits j now ts last lastTs h =
+updated_fits j now ts last last_ts h =
     let received = recv_delta j now last in
-    let sent = rtp_ts_delta ts lastTs in
+    let sent = rtp_ts_delta ts last_ts in
     let d = magnitude (sub binary64 received sent) in
-    or_same (eqb ts lastTs) _ (or_same (lt received tiny) _ (or_same (lt sent tiny) _ (or_same (lt (mul binary64 one64 j.clock_rate) d) _ (record { rate_fits = h.rate_fits; jitter_fits = moved-fits j.jitter d }))))
+    or_same (eqb ts last_ts) _ (or_same (lt received tiny) _ (or_same (lt sent tiny) _ (or_same (lt (mul binary64 one64 j.clock_rate) d) _ (record { rate_fits = h.rate_fits; jitter_fits = moved-fits j.jitter d }))))
   where
     or_same : (b : Bool) (k : Jitter) → JitterFits k → JitterFits (cond b j k)
     or_same b k fit = either JitterFits b j k h fit
@@ -103,7 +103,7 @@ placed_fits now e p s h =
 
 fate-fits : (now : ℕ) (e : Entry) (f : Fate) (s : State) → StateFits s → StateFits (after_fate now e f s)
 unfolding after_fate
-fate-fits now e tooLate s h = record { rate_fits = h.rate_fits; jitter_fits = h.jitter_fits; loss_fits = h.loss_fits }
+fate-fits now e too_late s h = record { rate_fits = h.rate_fits; jitter_fits = h.jitter_fits; loss_fits = h.loss_fits }
 fate-fits now e redundant s h = record { rate_fits = h.rate_fits; jitter_fits = h.jitter_fits; loss_fits = h.loss_fits }
 fate-fits now e recovered s h = record { rate_fits = h.rate_fits; jitter_fits = h.jitter_fits; loss_fits = lost_fits s.queue.loss 1 h.loss_fits }
 
@@ -123,12 +123,12 @@ unfolding taken after_media after_repair after_poll after_poll_nack nack_all
 taken-fits (media now d) s h = placed_fits now _ _ s h
 taken-fits (repair now d) s h = fate-fits now _ _ s h
 taken-fits (poll now out) s h = hand_out-fits (going_out now s s.entries) (drained now s) (drained-fits now s h)
-taken-fits (pollNack now out) s h = drained-fits now s h
+taken-fits (poll_nack now out) s h = drained-fits now s h
 taken-fits (nack_wire now out) s h = drained-fits now s h
 taken-fits (timeout_receive now) s h = h
-taken-fits (timeoutNack now) s h = h
+taken-fits (timeout_nack now) s h = h
 taken-fits rtx_stats s h = h
-taken-fits highestReceived s h = h
+taken-fits highest_received s h = h
 
 -- ---- the opening
 

@@ -55,12 +55,12 @@ unfolding answered refusal_in
 no_refusal (Calls.media now d) s = one_of_two (waits (media_place s (media_entry_of now d s.queue).number))
 no_refusal (Calls.repair now d) s = refl
 no_refusal (Calls.poll now out) s = no_refusal-handed s.queue (going_out now s s.entries)
-no_refusal (Calls.pollNack now out) s = no_refusal-nack (length (due_gaps now s.queue s.gaps))
+no_refusal (Calls.poll_nack now out) s = no_refusal-nack (length (due_gaps now s.queue s.gaps))
 no_refusal (Calls.nack_wire now out) s = refl
 no_refusal (Calls.timeout_receive now) s = refl
-no_refusal (Calls.timeoutNack now) s = refl
+no_refusal (Calls.timeout_nack now) s = refl
 no_refusal Calls.rtx_stats s = refl
-no_refusal Calls.highestReceived s = refl
+no_refusal Calls.highest_received s = refl
 
 -- ---- what comes back stands for the session that is left
 

@@ -2,7 +2,7 @@
 use Rattle.std.specs.Prelude.{◌≡◌, true, cond, List, [], ◌∷◌, ℕ, eqb}
 use Rattle.model.specs.Records.{new_state}
 use Rattle.model.specs.Storage.{Storage, Stored, write}
-use Rattle.model.specs.Calls.{Call, media, repair, poll, pollNack, nack_wire, timeout_receive, timeoutNack, rtx_stats, highestReceived}
+use Rattle.model.specs.Calls.{Call, media, repair, poll, poll_nack, nack_wire, timeout_receive, timeout_nack, rtx_stats, highest_received}
 use Rattle.model.specs.Table.{opening_refusal}
 use Rattle.model.specs.Did.{did}
 use Rattle.book.specs.Book.{Heard, refused, accepted}
@@ -40,18 +40,18 @@ pub data ExportedCall (w : SessionWords) (t : Storage) : Call → SessionWords �
       → ExportedCall w t (repair now d) r.session u (heard_in r.refusal 0) []
   polls : {now : ℕ} {out left : List ℕ} {r : Polled} {u : Storage} → Gives polled (poll now out) w t r u left
       → ExportedCall w t (poll now out) r.session u (heard_in r.refusal r.has_packet) (numbers_in r)
-  polls_nack : {now : ℕ} {out left : List ℕ} {r : PolledNack} {u : Storage} → Gives polled_nack (pollNack now out) w t r u left
-      → ExportedCall w t (pollNack now out) r.session u (heard_in r.refusal 0) []
+  polls_nack : {now : ℕ} {out left : List ℕ} {r : PolledNack} {u : Storage} → Gives polled_nack (poll_nack now out) w t r u left
+      → ExportedCall w t (poll_nack now out) r.session u (heard_in r.refusal 0) []
   nacks_wire : {now : ℕ} {out left : List ℕ} {r : PolledWire} {u : Storage} → Gives polled_wire (nack_wire now out) w t r u left
       → ExportedCall w t (nack_wire now out) r.session u (heard_in r.refusal 0) []
   receive_timeout : {now : ℕ} {r : Timeout} {u : Storage} → Gives (alone timeout_told) (timeout_receive now) w t r u []
       → ExportedCall w t (timeout_receive now) w u (heard_in r.refusal 0) []
-  nack_timeout : {now : ℕ} {r : Timeout} {u : Storage} → Gives (alone timeout_told) (timeoutNack now) w t r u []
-      → ExportedCall w t (timeoutNack now) w u (heard_in r.refusal 0) []
+  nack_timeout : {now : ℕ} {r : Timeout} {u : Storage} → Gives (alone timeout_told) (timeout_nack now) w t r u []
+      → ExportedCall w t (timeout_nack now) w u (heard_in r.refusal 0) []
   repair_figures : {r : RtxStats} {u : Storage} → Gives (alone stats_told) rtx_stats w t r u []
       → ExportedCall w t rtx_stats w u (heard_in r.refusal 0) []
-  highest_number : {r : Highest} {u : Storage} → Gives (alone highest_told) highestReceived w t r u []
-      → ExportedCall w t highestReceived w u (heard_in r.refusal 0) []
+  highest_number : {r : Highest} {u : Storage} → Gives (alone highest_told) highest_received w t r u []
+      → ExportedCall w t highest_received w u (heard_in r.refusal 0) []
 
 -- ---- call after call
 

@@ -167,7 +167,7 @@ pub extern "C" fn bizhgemu_poll_nack(
     now: u64,
     out: &mut [u16],
 ) -> PolledNack
-    ensures { Gives Told.polled_nack (Calls.pollNack now out.old) session (lent entries payloads gaps remembered) result (left entries payloads gaps remembered) out.new }
+    ensures { Gives Told.polled_nack (Calls.poll_nack now out.old) session (lent entries payloads gaps remembered) result (left entries payloads gaps remembered) out.new }
 {
     if !ffi_words::readable(session) {
         return answers::nack_refused(refusals::SESSION, session);
@@ -237,7 +237,7 @@ pub extern "C" fn bizhgemu_timeout_nack(
     remembered: &mut [u64],
     now: u64,
 ) -> Timeout
-    ensures { Gives (alone Told.timeout_told) (Calls.timeoutNack now) session (lent entries payloads gaps remembered) result (left entries payloads gaps remembered) [] }
+    ensures { Gives (alone Told.timeout_told) (Calls.timeout_nack now) session (lent entries payloads gaps remembered) result (left entries payloads gaps remembered) [] }
 {
     if !ffi_words::readable(session) {
         return figures::timeout_refused(refusals::SESSION);
@@ -273,7 +273,7 @@ pub extern "C" fn bizhgemu_highest_sequence_number_received(
     gaps: &mut [u64],
     remembered: &mut [u64],
 ) -> Highest
-    ensures { Gives (alone Told.highest_told) Calls.highestReceived session (lent entries payloads gaps remembered) result (left entries payloads gaps remembered) [] }
+    ensures { Gives (alone Told.highest_told) Calls.highest_received session (lent entries payloads gaps remembered) result (left entries payloads gaps remembered) [] }
 {
     if !ffi_words::readable(session) {
         return figures::highest_refused(refusals::SESSION);

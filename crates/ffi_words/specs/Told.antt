@@ -8,7 +8,7 @@ use Rattle.packet_loss.specs.Loss.{zero32}
 use Rattle.stats.specs.declared.OptRtxStats.{OptRtxStats}
 use Rattle.stats.specs.declared.OptRtxStats.TheVariants as OptRtxStats
 use Rattle.model.specs.declared.Session.{Session}
-use Rattle.model.specs.Push.{Fate, recovered, redundant, tooLate}
+use Rattle.model.specs.Push.{Fate, recovered, redundant, too_late}
 use Rattle.model.specs.Calls as Calls
 use Rattle.model.specs.Calls.{Answer}
 use Rattle.model.specs.Did as Did
@@ -46,7 +46,7 @@ refusal_in (Calls.highest n) = None
 unfoldable pub fate_number : Fate → ℕ
 fate_number recovered = 0
 fate_number redundant = 1
-fate_number tooLate = 2
+fate_number too_late = 2
 
 -- the number that it is or has
 unfoldable pub number_in : Answer → Opt

@@ -18,9 +18,9 @@ as_timestamp (negsuc n) = None
 
 unfoldable pub map_instant_to_rtp_timestamp : ℕ → ℕ → ℕ → ℤ → Opt
 unfolding delta_in_rtp_timesteps as_timestamp
-map_instant_to_rtp_timestamp refInstant refTimestamp rate instant = as_timestamp (pos refTimestamp +ℤ delta_in_rtp_timesteps (instant -ℤ pos refInstant) rate)
+map_instant_to_rtp_timestamp ref_instant ref_timestamp rate instant = as_timestamp (pos ref_timestamp +ℤ delta_in_rtp_timesteps (instant -ℤ pos ref_instant) rate)
 
 -- "the last timestamp plus (now − delay − last instant)"
 unfoldable pub max_timestamp : ℕ → ℕ → ℕ → ℕ → ℕ → Opt
 unfolding map_instant_to_rtp_timestamp
-max_timestamp lastInstant lastTimestamp rate delay now = map_instant_to_rtp_timestamp lastInstant lastTimestamp rate (pos now -ℤ pos delay)
+max_timestamp last_instant last_timestamp rate delay now = map_instant_to_rtp_timestamp last_instant last_timestamp rate (pos now -ℤ pos delay)

@@ -22,7 +22,7 @@ use Rattle.model.specs.Records.{Gap, State, gap_numbers}
 use Rattle.model.specs.Rules.{due, truncated}
 use Rattle.model.specs.Poll.{timings_of, due_gaps, nack_numbers, nack_entries_of}
 use Rattle.model.specs.Storage.{Stored, parse}
-use Rattle.model.specs.Calls.{Call, refused, wire, pollNack, nack_wire, nack_answer, taken, answered, output_after}
+use Rattle.model.specs.Calls.{Call, refused, wire, poll_nack, nack_wire, nack_answer, taken, answered, output_after}
 use Rattle.model.specs.Table.{refusal, call_refusal, output_refusal, poll_nack_refusal}
 use Rattle.model.specs.Did.{did, accepted, turned_back}
 use Rattle.model.specs.OnTheWire.{SameRefusal, SameEffect, ReadsBack, OnTheWire}
@@ -72,13 +72,13 @@ module _ (now : ℕ) (m : Stored) where
       go true e a = (eqb-true _ 0 e, cc)
       go false e a = let z : ◌≡◌ {A = ℕ} 0 1 = cc in absurd (omega arith)
 
-  list-taken : (list : List ℕ) (k : ℕ) → (did (pollNack now list) m).answer ≡ nack_answer k → (refusal (pollNack now list) m ≡ 0) × (k ≡ length (due_gaps now (parse m).queue (parse m).gaps))
+  list-taken : (list : List ℕ) (k : ℕ) → (did (poll_nack now list) m).answer ≡ nack_answer k → (refusal (poll_nack now list) m ≡ 0) × (k ≡ length (due_gaps now (parse m).queue (parse m).gaps))
   unfolding did accepted turned_back answered
-  list-taken list k = go (eqb (refusal (pollNack now list) m) 0) refl
+  list-taken list k = go (eqb (refusal (poll_nack now list) m) 0) refl
     where
-      go : (t : Bool) → eqb (refusal (pollNack now list) m) 0 ≡ t
-          → (cond t (accepted (pollNack now list) (parse m)) (turned_back (refusal (pollNack now list) m) (pollNack now list) m)).answer ≡ nack_answer k
-          → (refusal (pollNack now list) m ≡ 0) × (k ≡ length (due_gaps now (parse m).queue (parse m).gaps))
+      go : (t : Bool) → eqb (refusal (poll_nack now list) m) 0 ≡ t
+          → (cond t (accepted (poll_nack now list) (parse m)) (turned_back (refusal (poll_nack now list) m) (poll_nack now list) m)).answer ≡ nack_answer k
+          → (refusal (poll_nack now list) m ≡ 0) × (k ≡ length (due_gaps now (parse m).queue (parse m).gaps))
       go true e a = (eqb-true _ 0 e, sym (nack-same _ _ a))
       go false e a = absurd (never_nack _ k a)
 
@@ -103,7 +103,7 @@ same_refusal now bytes list m e =
 
 same_effect : (now : ℕ) (bytes list : List ℕ) (m : Stored) → SameEffect now bytes list m
 unfolding taken
-same_effect now bytes list m e f = did-taken (nack_wire now bytes) m e ∙ sym (did-taken (pollNack now list) m f)
+same_effect now bytes list m e f = did-taken (nack_wire now bytes) m e ∙ sym (did-taken (poll_nack now list) m f)
 
 reads_back : (now : ℕ) (bytes list : List ℕ) (m : Stored) → ReadsBack now bytes list m
 unfolding output_after nack_numbers nack_entries_of entries
@@ -116,8 +116,8 @@ reads_back now bytes list m n k back a b room =
     let i : k ≡ length xs = l.1 ∙ sym (length-map (due_gaps now s.queue s.gaps) (λ (g : Gap). g.number)) in
     let j : map truncated (due_gaps now s.queue s.gaps) ≡ map (low_bits 16) xs = sym (map-map (low_bits 16) (λ (g : Gap). g.number) (due_gaps now s.queue s.gaps)) in
     let p : take n (did (nack_wire now bytes) m).output ≡ entries xs = ap (take n) (output-taken (nack_wire now bytes) m w.0) ∙ front_is (entries xs) bytes n w.1 in
-    let q : take k (did (pollNack now list) m).output ≡ map (low_bits 16) xs =
-    ap (take k) (output-taken (pollNack now list) m l.0) ∙ front_is _ list k (l.1 ∙ sym (length-map (due_gaps now s.queue s.gaps) truncated)) ∙ j in
+    let q : take k (did (poll_nack now list) m).output ≡ map (low_bits 16) xs =
+    ap (take k) (output-taken (poll_nack now list) m l.0) ∙ front_is _ list k (l.1 ∙ sym (length-map (due_gaps now s.queue s.gaps) truncated)) ∙ j in
     let four = length-wire (pairs xs) in
     let r = entries-taken xs back asc (omega (arith, w.1)) in
     (rw (p, i) r.0, rw (p, q) r.1)

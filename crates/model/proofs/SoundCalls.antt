@@ -18,7 +18,7 @@ use Rattle.rtp.specs.Opt.{number_of}
 use Rattle.model.specs.Records.{State, new_queue, new_state, highest_of}
 use Rattle.model.specs.Valid.{last_sound, sound}
 use Rattle.model.specs.Storage.{Storage, Stored, lengths_fit, parse, write}
-use Rattle.model.specs.Calls.{Call, media, repair, poll, pollNack, nack_wire, timeout_receive, timeoutNack, rtx_stats, highestReceived, taken}
+use Rattle.model.specs.Calls.{Call, media, repair, poll, poll_nack, nack_wire, timeout_receive, timeout_nack, rtx_stats, highest_received, taken}
 use Rattle.model.specs.Table.{config_valid, session_sound, session_refusal, call_refusal, refusal, opening_refusal}
 use Rattle.model.specs.Did.{accepted, did}
 use Rattle.model.proofs.Laid.{Fits, parse-write, lengths-write}
@@ -56,12 +56,12 @@ unfolding call_refusal taken
 taken-sound (media now d) s h e = media_sound now d s h e
 taken-sound (repair now d) s h e = repair_sound now d s h e
 taken-sound (poll now out) s h e = poll_sound now out s h e
-taken-sound (pollNack now out) s h e = poll_nack-sound _ _ now s h e
+taken-sound (poll_nack now out) s h e = poll_nack-sound _ _ now s h e
 taken-sound (nack_wire now out) s h e = poll_nack-sound _ _ now s h e
 taken-sound (timeout_receive now) s h e = h
-taken-sound (timeoutNack now) s h e = h
+taken-sound (timeout_nack now) s h e = h
 taken-sound rtx_stats s h e = h
-taken-sound highestReceived s h e = h
+taken-sound highest_received s h e = h
 
 -- ---- written and read again
 

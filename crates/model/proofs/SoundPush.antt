@@ -24,7 +24,7 @@ use Rattle.model.specs.declared.LastReceived.{LastReceived}
 use Rattle.model.specs.Lists.{some?}
 use Rattle.model.specs.Records.{Entry, Gap, Remembered, State, highest_of}
 use Rattle.model.specs.Rules.{max_gap_size, max_lost_nacked, is, below, without, gaps_from, Place, first, near, far, fills, other, place_of, waits, between, gaps_after, is_of, forget_first, overfull}
-use Rattle.model.specs.Push.{passed, insert_sorted, media_place, heard, last_after, count_dropped, count_received, after_dropped, after_queued, front_out_of, within_depth, media_entry_of, after_media, Fate, tooLate, recovered, redundant, repair_fate, repair_entry, after_fate, after_repair}
+use Rattle.model.specs.Push.{passed, insert_sorted, media_place, heard, last_after, count_dropped, count_received, after_dropped, after_queued, front_out_of, within_depth, media_entry_of, after_media, Fate, too_late, recovered, redundant, repair_fate, repair_entry, after_fate, after_repair}
 use Rattle.model.specs.Storage.{entry_places}
 use Rattle.model.specs.Table.{media_values, too_many_gaps, packet_refusal, media_refusal, original_number_refusal, fate_values, no_place, fate_refusal, repair_refusal}
 use Rattle.model.proofs.Lists.{by_cases, by_nand, arm_yes, arm_no, Each, none, more, each_first, each_rest, each_keep, empty, rising_keep, length-keep, length-following, length_insert}
@@ -188,7 +188,7 @@ module _ (now : ℕ) (e : Entry) (s : State) (h : Sound s) (later-now : s.queue.
   abbrev q : QueueIn s.queue
   q = h.queue_in
 
-  too_late_sound : Each (λ v. v ≤ largest) (fate_values s.queue.rtx (length e.payload) tooLate) → Sound (after_fate now e tooLate s)
+  too_late_sound : Each (λ v. v ≤ largest) (fate_values s.queue.rtx (length e.payload) too_late) → Sound (after_fate now e too_late s)
   unfolding after_fate fate_values record_too_late
   too_late_sound values =
       let l = later h.lists_in later-now in

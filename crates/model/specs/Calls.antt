@@ -13,11 +13,11 @@ use Rattle.model.specs.Poll.{delay_of, going_out, after_poll, due_gaps, nack_num
 -- A call with its own arguments: `now`, then the datagram, or the lent output.
 pub data Call : Type 0 where
   media repair : ℕ → List ℕ → Call
-  poll pollNack : ℕ → List ℕ → Call
+  poll poll_nack : ℕ → List ℕ → Call
   -- 02, point 1: a `poll_nack` whose output is on the wire
   nack_wire : ℕ → List ℕ → Call
-  timeout_receive timeoutNack : ℕ → Call
-  rtx_stats highestReceived : Call
+  timeout_receive timeout_nack : ℕ → Call
+  rtx_stats highest_received : Call
 
 -- What `poll` returns beside the payload: the packet's own fields, its arrival and the delay.
 pub record Packet : Type 0 where
@@ -54,13 +54,13 @@ unfoldable pub taken : Call → State → State
 taken (media now d) s = after_media now d s
 taken (repair now d) s = after_repair now d s
 taken (poll now out) s = after_poll now s
-taken (pollNack now out) s = after_poll_nack now s
+taken (poll_nack now out) s = after_poll_nack now s
 -- 02, point 1: "with the same effect on the session"
 taken (nack_wire now out) s = after_poll_nack now s
 taken (timeout_receive now) s = s
-taken (timeoutNack now) s = s
+taken (timeout_nack now) s = s
 taken rtx_stats s = s
-taken highestReceived s = s
+taken highest_received s = s
 
 -- ---- what it answers
 
@@ -85,12 +85,12 @@ unfolding placed_answer
 answered (media now d) s = placed_answer (media_place s (media_entry_of now d s.queue).number)
 answered (repair now d) s = repaired (repair_fate s (repair_entry d s.queue).number)
 answered (poll now out) s = handed s.queue (going_out now s s.entries)
-answered (pollNack now out) s = nack_answer (length (due_gaps now s.queue s.gaps))
+answered (poll_nack now out) s = nack_answer (length (due_gaps now s.queue s.gaps))
 answered (nack_wire now out) s = wire (length (nack_entries_of now s))
 answered (timeout_receive now) s = timeout (receive_timeout_of s.queue s.entries now)
-answered (timeoutNack now) s = timeout (nack_timeout_of (timings_of s.queue) now s.gaps)
+answered (timeout_nack now) s = timeout (nack_timeout_of (timings_of s.queue) now s.gaps)
 answered rtx_stats s = stats (repair_figures_of s.queue)
-answered highestReceived s = highest (highest_of s.queue.last)
+answered highest_received s = highest (highest_of s.queue.last)
 
 -- ---- the lent output
 
@@ -103,21 +103,21 @@ unfoldable pub output_of : Call → List ℕ
 output_of (media now d) = []
 output_of (repair now d) = []
 output_of (poll now out) = out
-output_of (pollNack now out) = out
+output_of (poll_nack now out) = out
 output_of (nack_wire now out) = out
 output_of (timeout_receive now) = []
-output_of (timeoutNack now) = []
+output_of (timeout_nack now) = []
 output_of rtx_stats = []
-output_of highestReceived = []
+output_of highest_received = []
 
 -- "Hand-out": "Output after the payload or the last NACK number keeps its bytes." 02, point 1: "lent output after them is kept"
 unfoldable pub output_after : Call → State → List ℕ
 output_after (media now d) s = []
 output_after (repair now d) s = []
 output_after (poll now out) s = over (payload_out (going_out now s s.entries)) out
-output_after (pollNack now out) s = over (nack_numbers now s) out
+output_after (poll_nack now out) s = over (nack_numbers now s) out
 output_after (nack_wire now out) s = over (nack_entries_of now s) out
 output_after (timeout_receive now) s = []
-output_after (timeoutNack now) s = []
+output_after (timeout_nack now) s = []
 output_after rtx_stats s = []
-output_after highestReceived s = []
+output_after highest_received s = []

@@ -131,10 +131,10 @@ after_media now d s = let e = media_entry_of now d s.queue in after_placed now e
 
 -- "a repair is `recovered`, `redundant` or `too late`"
 pub data Fate : Type 0 where
-  tooLate recovered redundant : Fate
+  too_late recovered redundant : Fate
 
 unfoldable pub fate_in : Queue → List Gap → ℕ → Fate
-fate_in q gaps n = cond (passed q.config.settings.mode (number_of q.returned) n) tooLate (cond (some? (is n) gaps) recovered redundant)
+fate_in q gaps n = cond (passed q.config.settings.mode (number_of q.returned) n) too_late (cond (some? (is n) gaps) recovered redundant)
 
 unfoldable pub repair_fate : State → ℕ → Fate
 unfolding fate_in
@@ -160,7 +160,7 @@ abbrev pub queue_recovered : (now : ℕ) → Opt → (size : ℕ) → Queue → 
 queue_recovered now nacked size q = with_loss (with_rtx (with_clock q now) (sampled now nacked (record_in_time q.rtx size))) (record_lost q.loss 1)
 
 unfoldable pub after_fate : ℕ → Entry → Fate → State → State
-after_fate now e tooLate s =
+after_fate now e too_late s =
     record {
       queue = queue_too_late now (lost_nacked_at e.number s.remembered) s.queue;
       entries = s.entries;

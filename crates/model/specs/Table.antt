@@ -16,11 +16,11 @@ use Rattle.model.specs.declared.Queue.{Queue}
 use Rattle.model.specs.Lists.{some?}
 use Rattle.model.specs.Records.{Entry, Gap, State}
 use Rattle.model.specs.Rules.{Place, first, near, far, fills, other, waits, full, overfull, given_up_of}
-use Rattle.model.specs.Push.{media_entry_of, media_place, Fate, tooLate, recovered, redundant, repair_entry, repair_fate}
+use Rattle.model.specs.Push.{media_entry_of, media_place, Fate, too_late, recovered, redundant, repair_entry, repair_fate}
 use Rattle.model.specs.Poll.{drained, going_out, lost_under, due_gaps}
 use Rattle.model.specs.Valid.{sound}
 use Rattle.model.specs.Storage.{Storage, Stored, lengths_fit, entry_places, parse}
-use Rattle.model.specs.Calls.{Call, media, repair, poll, pollNack, nack_wire, timeout_receive, timeoutNack, rtx_stats, highestReceived}
+use Rattle.model.specs.Calls.{Call, media, repair, poll, poll_nack, nack_wire, timeout_receive, timeout_nack, rtx_stats, highest_received}
 
 -- 1
 unfoldable pub config_valid : Config → Bool
@@ -67,7 +67,7 @@ nack_count_refusal due = refuse_if (some? full due) COUNT
 
 -- 14: the counters that a packet of this size would raise
 unfoldable pub media_values : Counters → ℕ → Bool → Bool → List ℕ
-media_values c size waits pushesOut = cond waits ((c.received + 1) ∷ (c.bytes + size) ∷ cond pushesOut ((c.dropped + 1) ∷ []) []) ((c.dropped + 1) ∷ [])
+media_values c size waits pushes_out = cond waits ((c.received + 1) ∷ (c.bytes + size) ∷ cond pushes_out ((c.dropped + 1) ∷ []) []) ((c.dropped + 1) ∷ [])
 
 -- 12: "s from 2 to 1,000, packet would be queued, open gaps + s − 1 over G", with so many gaps open
 unfoldable pub too_many_gaps : Settings → (gaps number : ℕ) → Place → Bool
@@ -103,13 +103,13 @@ original_number_refusal q payload = or_else (media_first_refusal q) (original_re
 
 -- 14: the counters that a repair of this size would raise
 unfoldable pub fate_values : RtxState → ℕ → Fate → List ℕ
-fate_values r size tooLate = (r.received_too_late + 1) ∷ []
+fate_values r size too_late = (r.received_too_late + 1) ∷ []
 fate_values r size redundant = (r.received_redundant + 1) ∷ []
 fate_values r size recovered = (r.received_in_time + 1) ∷ (r.bytes_received + size) ∷ []
 
 -- 13: "repair would be inserted with 2 · D entries held", of so many places
 unfoldable pub no_place : ℕ → ℕ → Fate → Bool
-no_place places entries tooLate = false
+no_place places entries too_late = false
 no_place places entries redundant = false
 no_place places entries recovered = leb places entries
 
@@ -160,13 +160,13 @@ unfoldable pub call_refusal : Call → State → ℕ
 call_refusal (media now d) s = media_refusal now d s
 call_refusal (repair now d) s = repair_refusal now d s
 call_refusal (poll now out) s = poll_refusal now out s
-call_refusal (pollNack now out) s = poll_nack_refusal s.queue.config.settings.max_gaps (length out) now s.queue s.gaps
+call_refusal (poll_nack now out) s = poll_nack_refusal s.queue.config.settings.max_gaps (length out) now s.queue s.gaps
 -- 02, point 1: "15 also covers an output under 4 · G bytes"
 call_refusal (nack_wire now out) s = poll_nack_refusal (entry_bytes * s.queue.config.settings.max_gaps) (length out) now s.queue s.gaps
 call_refusal (timeout_receive now) s = clock_refusal s.queue now
-call_refusal (timeoutNack now) s = clock_refusal s.queue now
+call_refusal (timeout_nack now) s = clock_refusal s.queue now
 call_refusal rtx_stats s = 0
-call_refusal highestReceived s = 0
+call_refusal highest_received s = 0
 
 unfoldable pub refusal : Call → Stored → ℕ
 refusal c m = or_else (session_refusal m) (call_refusal c (parse m))

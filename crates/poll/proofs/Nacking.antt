@@ -27,7 +27,7 @@ use Rattle.model.specs.Rules.{due, nack_due, truncated, full, given_up_of, not_g
 use Rattle.model.specs.Poll.{lose, drained, timings_of, due_gaps, nack_numbers, nack_entries_of, nack_all, after_poll_nack}
 use Rattle.model.specs.Storage.{Stored, gap_words_of, gaps_of, parse, write}
 use Rattle.nack_pairs.specs.Wire.{entry_bytes, entries}
-use Rattle.model.specs.Calls.{Answer, Call, pollNack, nack_wire, refused, taken, answered, output_of, output_after, wire, nack_answer}
+use Rattle.model.specs.Calls.{Answer, Call, poll_nack, nack_wire, refused, taken, answered, output_of, output_after, wire, nack_answer}
 use Rattle.model.specs.Table.{session_sound, session_refusal, output_refusal, clock_refusal, count_refusal, nack_count_refusal, nacks_refusal, poll_nack_refusal, call_refusal, refusal}
 use Rattle.model.specs.Did.{Done, accepted}
 use Rattle.model.proofs.SoundQueue.{clock_of}
@@ -325,14 +325,14 @@ module _ (k : Call) (places now : ℕ) (m : Stored) (same : refusal k m ≡ nack
 -- ---- `poll_nack`, and the call on the wire, where four bytes are a place
 
 module _ (now : ℕ) (m : Stored) (out : List ℕ) where
-  pub list-refusal : refusal (pollNack now out) m ≡ nack_refusal (length out) now m
+  pub list-refusal : refusal (poll_nack now out) m ≡ nack_refusal (length out) now m
   unfolding refusal call_refusal nack_refusal parse
   list-refusal = refl
 
   abbrev due' : List Gap
   due' = due_in now m.session m.storage.gaps
 
-  pub list-accepted : accepted (pollNack now out) (parse m) ≡ done (nack_answer (length due')) (write (after_poll_nack now (parse m))) (over (map truncated due') out)
+  pub list-accepted : accepted (poll_nack now out) (parse m) ≡ done (nack_answer (length due')) (write (after_poll_nack now (parse m))) (over (map truncated due') out)
   unfolding accepted answered taken output_after nack_numbers parse
   list-accepted = refl
 

@@ -145,7 +145,7 @@ pub fn poll_nack(
     now: u64,
     out: &mut [u16],
 ) -> PolledNack
-    ensures { Does (Calls.pollNack now out.old) (before entries payloads gaps remembered session) (Answers.nack_answer result.answer) (after entries payloads gaps remembered result.session) out.new }
+    ensures { Does (Calls.poll_nack now out.old) (before entries payloads gaps remembered session) (Answers.nack_answer result.answer) (after entries payloads gaps remembered result.session) out.new }
 {
     match begin(session, entries, payloads, gaps, remembered, now, out.len()) {
         Judged::Refused(k) => PolledNack {

@@ -20,7 +20,7 @@ use Rattle.model.specs.Lists.{keep, some?}
 use Rattle.rtp.specs.Opt.{number_of}
 use Rattle.model.specs.Records.{Entry, Remembered, State}
 use Rattle.model.specs.Rules.{is, gap_of, without, once_of, instant_of, is_of, forget_first}
-use Rattle.model.specs.Push.{passed, insert_sorted, Fate, tooLate, recovered, redundant, repair_fate, queue_too_late, queue_redundant, queue_recovered, after_fate}
+use Rattle.model.specs.Push.{passed, insert_sorted, Fate, too_late, recovered, redundant, repair_fate, queue_too_late, queue_redundant, queue_recovered, after_fate}
 use Rattle.model.specs.Storage.{Stored, entry_words, payload_bytes, arrival_word, entry_words_of, payload_bytes_of, gap_words_of, remembered_words_of, entry_places, entries_of, gaps_of, remembered_of, entries_laid, payloads_laid, gaps_laid, remembered_laid, parse, write}
 use Rattle.model.specs.Calls as Calls
 use Rattle.model.specs.Calls.{Answer}
@@ -85,12 +85,12 @@ module _ (instant : ℕ) (e : Row.Entry) (m : Stored) (s : Settled m) where
   pub late_is : (q : Queue) (o : Opt) (k : ℕ) (rs : List ℕ) → o ≡ instant_of (keep (is_of e.number.0) held)
       → q ≡ queue_too_late instant o m.session.queue
       → k ≡ left_after m.session.remembered o → rs ≡ laid remembered_words_of (length m.storage.remembered) (forget_first e.number.0 held)
-      → (payload : List ℕ) → stored (record { queue = q; entries = m.session.entries; gaps = m.session.gaps; remembered = k }) m.storage.entries m.storage.payloads m.storage.gaps rs ≡ write (after_fate instant (entry e payload) tooLate (parse m))
+      → (payload : List ℕ) → stored (record { queue = q; entries = m.session.entries; gaps = m.session.gaps; remembered = k }) m.storage.entries m.storage.payloads m.storage.gaps rs ≡ write (after_fate instant (entry e payload) too_late (parse m))
   unfolding after_fate parse write laid remembered_laid record_too_late
   late_is q o k rs ho hq hk hr payload =
       let n : length held ≡ m.session.remembered = length-remembered_of m.storage.remembered m.session.remembered in
       let left : k ≡ length (forget_first e.number.0 held) = hk ∙ ap (left_after m.session.remembered) ho ∙ ap (λ (j : ℕ). left_after j (instant_of (keep (is_of e.number.0) held))) (sym n) ∙ left_is (length held) (length (forget_first e.number.0 held)) (instant_of (keep (is_of e.number.0) held)) (forget-left e.number.0 held) in
-      written_as (after_fate instant (entry e payload) tooLate (parse m)) (record { queue = q; entries = m.session.entries; gaps = m.session.gaps; remembered = k }) m.storage.entries m.storage.payloads m.storage.gaps rs
+      written_as (after_fate instant (entry e payload) too_late (parse m)) (record { queue = q; entries = m.session.entries; gaps = m.session.gaps; remembered = k }) m.storage.entries m.storage.payloads m.storage.gaps rs
       (hq ∙ rw ho) (ap (λ (y : Stored). y.session.entries) s.held) (ap (λ (y : Stored). y.session.gaps) s.held) left
       (ap (λ (y : Stored). y.storage.entries) s.held) (ap (λ (y : Stored). y.storage.payloads) s.held) (ap (λ (y : Stored). y.storage.gaps) s.held) (hr ∙ rw ready_late.lengths.remembered)
 
@@ -106,7 +106,7 @@ module _ (instant : ℕ) (e : Row.Entry) (m : Stored) (s : Settled m) where
 
 -- ---- recovered
 
-fate-some : (a b : Bool) → recovered ≡ cond a tooLate (cond b recovered redundant) → b ≡ true
+fate-some : (a b : Bool) → recovered ≡ cond a too_late (cond b recovered redundant) → b ≡ true
 fate-some true b e = let z : ◌≡◌ {A = ℕ} 0 1 = cc in absurd (omega arith)
 fate-some false true e = refl
 fate-some false false e = let z : ◌≡◌ {A = ℕ} 0 1 = cc in absurd (omega arith)

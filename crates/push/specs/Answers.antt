@@ -18,7 +18,7 @@ media_answer (MediaAnswer.Refused k) = Calls.refused k
 unfoldable pub repair_answer : RepairAnswer → Answer
 repair_answer RepairAnswer.Recovered = Calls.repaired Push.recovered
 repair_answer RepairAnswer.Redundant = Calls.repaired Push.redundant
-repair_answer RepairAnswer.TooLate = Calls.repaired Push.tooLate
+repair_answer RepairAnswer.TooLate = Calls.repaired Push.too_late
 repair_answer (RepairAnswer.Refused k) = Calls.refused k
 
 -- turned back under the number, unless it is 0

@@ -113,7 +113,7 @@ fn too_late(
     e: Entry,
 ) -> Session
     requires { Settled (stored s entries.now payloads.now gaps.now remembered.old) }
-    ensures { (payload : List ℕ) → stored result entries.now payloads.now gaps.now remembered.new ≡ write (Push.after_fate instant (entry e payload) Push.tooLate (parse (stored s entries.now payloads.now gaps.now remembered.old))) }
+    ensures { (payload : List ℕ) → stored result entries.now payloads.now gaps.now remembered.new ≡ write (Push.after_fate instant (entry e payload) Push.too_late (parse (stored s entries.now payloads.now gaps.now remembered.old))) }
 {
     let nacked = lost_nacked::forget(remembered, s.remembered, e.number);
     let queue = session::rtx::too_late(s.queue, instant, nacked);

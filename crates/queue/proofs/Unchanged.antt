@@ -126,10 +126,10 @@ module _ (m : Stored) (now : ℕ) (h : or_else (session_refusal m) (clock_refusa
         (k.gaps_in.room, (ap (every? instants_fit) k.gaps_are ∙ instants m k.checked (omega (arith, clock)), timings-small m.session.queue t et valid k.checked.sound.queue_in.rtx_in.rtt_in))
 
     pub nacked-timeout : (t : Opt) (n : NackTimings) → n ≡ timings_of m.session.queue → t ≡ nack_timeout_of n now (gaps_of g m.session.gaps)
-        → Does (Calls.timeoutNack now) m (Calls.timeout t) (stored m.session e p g r) []
+        → Does (Calls.timeout_nack now) m (Calls.timeout t) (stored m.session e p g r) []
     unfolding taken output_after answered refusal call_refusal parse
     nacked-timeout t n en f =
         let q = m.session.queue in
         let a : nack_timeout_of (timings_of q) now (parse m).gaps ≡ t =
         sym (f ∙ ap (λ (x : NackTimings). nack_timeout_of x now (gaps_of g m.session.gaps)) en ∙ ap (nack_timeout_of (timings_of q) now) settled_is.gaps_are) in
-        left_as_is (Calls.timeoutNack now) m (stored m.session e p g r) (Calls.timeout t) 0 (sym h) refl refl refl (ap Calls.timeout a) w
+        left_as_is (Calls.timeout_nack now) m (stored m.session e p g r) (Calls.timeout t) 0 (sym h) refl refl refl (ap Calls.timeout a) w

@@ -101,7 +101,7 @@ pub fn timeout_nack(
     remembered: &mut [u64],
     now: u64,
 ) -> TimeoutAnswer
-    ensures { Does (Calls.timeoutNack now) (before entries payloads gaps remembered session) (timeout_answer result) (after entries payloads gaps remembered session) [] }
+    ensures { Does (Calls.timeout_nack now) (before entries payloads gaps remembered session) (timeout_answer result) (after entries payloads gaps remembered session) [] }
 {
     let refusal = storage::session_and_clock_refusal(
         session, entries, payloads, gaps, remembered, now,
@@ -164,7 +164,7 @@ pub fn highest_sequence_number_received(
     gaps: &mut [u64],
     remembered: &mut [u64],
 ) -> HighestAnswer
-    ensures { Does Calls.highestReceived (before entries payloads gaps remembered session) (highest_answer result) (after entries payloads gaps remembered session) [] }
+    ensures { Does Calls.highest_received (before entries payloads gaps remembered session) (highest_answer result) (after entries payloads gaps remembered session) [] }
 {
     let refusal = storage::session_refusal(session, entries, payloads, gaps, remembered);
     if refusal != 0 {

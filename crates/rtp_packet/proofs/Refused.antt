@@ -20,11 +20,11 @@ pub record Whole (d : List ℕ) : Type 0 where
   pub right_padding : wrong_padding d ≡ false
 
 -- what all checks leave
-pub record Accepted (expectedType expectedSsrc largest : ℕ) (d : List ℕ) : Type 0 where
+pub record Accepted (expected_type expected_ssrc largest : ℕ) (d : List ℕ) : Type 0 where
   pub whole : Whole d
   pub payload-fits : length (payload_of d) ≤ largest
-  pub right_type : payload_type_of d ≡ expectedType
-  pub right_ssrc : ssrc d ≡ expectedSsrc
+  pub right_type : payload_type_of d ≡ expected_type
+  pub right_ssrc : ssrc d ≡ expected_ssrc
 
 module _ (t s largest : ℕ) (d : List ℕ) where
   pub too_short : length d < 12 → datagram_refusal t s largest d ≡ TRUNCATED

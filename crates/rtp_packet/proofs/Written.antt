@@ -242,7 +242,7 @@ module _ (f : Fields) (fits : Fits f) where
   unfolding wrong_padding
   right_padding = rw (padding-back f fits) (right f.padding (length w) (header_length w) (padding_length w) padding-length-is (omega (arith, length-is, header_is, padding-length-is)))
 
-  pub passes : f.version ≡ 2 → (mostBytes : ℕ) → length f.payload ≤ mostBytes → datagram_refusal f.payload_type_of f.ssrc mostBytes w ≡ 0
+  pub passes : f.version ≡ 2 → (most_bytes : ℕ) → length f.payload ≤ most_bytes → datagram_refusal f.payload_type_of f.ssrc most_bytes w ≡ 0
   passes two most short =
       not-refused f.payload_type_of f.ssrc most w
       (record {

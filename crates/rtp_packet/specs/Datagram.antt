@@ -21,14 +21,14 @@ wrong_padding d =
 
 -- The number under which a session that expects this payload type and SSRC, and payloads of at most so many bytes, refuses a datagram; 0: none.
 unfoldable pub datagram_refusal : ℕ → ℕ → ℕ → List ℕ → ℕ
-datagram_refusal expectedType expectedSsrc mostBytes d =
+datagram_refusal expected_type expected_ssrc most_bytes d =
     or_else (refuse_if (ltb (length d) 12) TRUNCATED)
     (or_else (refuse_if (not (eqb (version d) 2)) VERSION)
     (or_else (refuse_if (ltb (length d) (header_length d)) TRUNCATED)
     (or_else (refuse_if (wrong_padding d) PADDING)
-    (or_else (refuse_if (ltb mostBytes (length (payload_of d))) payload_too_large)
-    (or_else (refuse_if (not (eqb (payload_type_of d) expectedType)) payload_type)
-    (refuse_if (not (eqb (ssrc d) expectedSsrc)) SSRC))))))
+    (or_else (refuse_if (ltb most_bytes (length (payload_of d))) payload_too_large)
+    (or_else (refuse_if (not (eqb (payload_type_of d) expected_type)) payload_type)
+    (refuse_if (not (eqb (ssrc d) expected_ssrc)) SSRC))))))
 
 unfoldable pub packet_of : List ℕ → RtpPacket
 packet_of d = record {
@@ -46,4 +46,4 @@ abbrev pub packet_unless : ℕ → List ℕ → Parsed
 packet_unless refusal d = cond (eqb refusal 0) (Packet (packet_of d)) (Refused refusal)
 
 unfoldable pub parsed : ℕ → ℕ → ℕ → List ℕ → Parsed
-parsed expectedType expectedSsrc mostBytes d = packet_unless (datagram_refusal expectedType expectedSsrc mostBytes d) d
+parsed expected_type expected_ssrc most_bytes d = packet_unless (datagram_refusal expected_type expected_ssrc most_bytes d) d

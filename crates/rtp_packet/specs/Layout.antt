@@ -138,9 +138,9 @@ fields_of d = record {
 pub record HeaderLayout : Type 0 where
   pub reads_back : (f : Fields) → Fits f → fields_of (laid_out_of f) ≡ f
   pub passes : (f : Fields) → Fits f → f.version ≡ 2
-      → (mostBytes : ℕ) → length f.payload ≤ mostBytes → datagram_refusal f.payload_type_of f.ssrc mostBytes (laid_out_of f) ≡ 0
-  pub every_accepted : (expectedType expectedSsrc mostBytes : ℕ) (d : List ℕ) → EachBelow 256 d
-      → datagram_refusal expectedType expectedSsrc mostBytes d ≡ 0 → (laid_out_of (fields_of d) ≡ d) × Fits (fields_of d)
+      → (most_bytes : ℕ) → length f.payload ≤ most_bytes → datagram_refusal f.payload_type_of f.ssrc most_bytes (laid_out_of f) ≡ 0
+  pub every_accepted : (expected_type expected_ssrc most_bytes : ℕ) (d : List ℕ) → EachBelow 256 d
+      → datagram_refusal expected_type expected_ssrc most_bytes d ≡ 0 → (laid_out_of (fields_of d) ≡ d) × Fits (fields_of d)
 
 -- RFC 4588: the original sequence number (OSN), then the original payload
 unfoldable pub repair_of : ℕ → List ℕ → List ℕ

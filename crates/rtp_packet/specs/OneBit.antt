@@ -24,8 +24,8 @@ in_ssrc i k = leb 8 i && leb i 11 && leb k 7
 -- the law for one group of bits and the number that it is refused under
 abbrev pub Refuses : (ℕ → ℕ → Bool) → ℕ → Type 0
 Refuses group number =
-    (expectedType expectedSsrc mostBytes : ℕ) (d : List ℕ) → datagram_refusal expectedType expectedSsrc mostBytes d ≡ 0
-    → (i k : ℕ) → group i k ≡ true → datagram_refusal expectedType expectedSsrc mostBytes (flip_bit i k d) ≡ number
+    (expected_type expected_ssrc most_bytes : ℕ) (d : List ℕ) → datagram_refusal expected_type expected_ssrc most_bytes d ≡ 0
+    → (i k : ℕ) → group i k ≡ true → datagram_refusal expected_type expected_ssrc most_bytes (flip_bit i k d) ≡ number
 
 abbrev pub OneBit : Type 0
 OneBit = Refuses in_version VERSION × (Refuses in_payload_type payload_type × Refuses in_ssrc SSRC)

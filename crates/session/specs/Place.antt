@@ -14,6 +14,6 @@ place Place.Fills = Rules.fills
 place Place.Other = Rules.other
 
 unfoldable pub fate : Fate → Push.Fate
-fate Fate.TooLate = Push.tooLate
+fate Fate.TooLate = Push.too_late
 fate Fate.Recovered = Push.recovered
 fate Fate.Redundant = Push.redundant

@@ -15,9 +15,9 @@ pub returns-then-not-readable : goal.returns-then-not-readable
 unfolding output_of
 returns-then-not-readable c =
     let a = c.args in
-    not-read Told.polled_nack (Calls.pollNack a.now a.out.now) a.session (storage a.entries.now a.payloads.now a.gaps.now a.remembered.now) _ (sym c.readable.ensures ∙ not-true _ (ap not c.if-not-readable.true)) c.nack_refused.ensures
+    not-read Told.polled_nack (Calls.poll_nack a.now a.out.now) a.session (storage a.entries.now a.payloads.now a.gaps.now a.remembered.now) _ (sym c.readable.ensures ∙ not-true _ (ap not c.if-not-readable.true)) c.nack_refused.ensures
 
 pub returns : goal.returns
 returns c =
     let a = c.args in
-    was_read Told.polled_nack (Calls.pollNack a.now a.out.now) a.session (storage a.entries.now a.payloads.now a.gaps.now a.remembered.now) _ (sym c.readable.ensures ∙ not-false _ (ap not c.if-not-readable.false)) c.session_of-read.ensures c.poll_nack-done.ensures c.nack_told.ensures
+    was_read Told.polled_nack (Calls.poll_nack a.now a.out.now) a.session (storage a.entries.now a.payloads.now a.gaps.now a.remembered.now) _ (sym c.readable.ensures ∙ not-false _ (ap not c.if-not-readable.false)) c.session_of-read.ensures c.poll_nack-done.ensures c.nack_told.ensures

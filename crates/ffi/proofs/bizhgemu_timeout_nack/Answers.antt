@@ -16,9 +16,9 @@ pub returns-then-not-readable : goal.returns-then-not-readable
 unfolding output_of
 returns-then-not-readable c =
     let a = c.args in
-    not-read (alone Told.timeout_told) (Calls.timeoutNack a.now) a.session (storage a.entries.now a.payloads.now a.gaps.now a.remembered.now) _ (sym c.readable.ensures ∙ not-true _ (ap not c.if-not-readable.true)) c.timeout_refused.ensures
+    not-read (alone Told.timeout_told) (Calls.timeout_nack a.now) a.session (storage a.entries.now a.payloads.now a.gaps.now a.remembered.now) _ (sym c.readable.ensures ∙ not-true _ (ap not c.if-not-readable.true)) c.timeout_refused.ensures
 
 pub returns : goal.returns
 returns c =
     let a = c.args in
-    was_read (alone Told.timeout_told) (Calls.timeoutNack a.now) a.session (storage a.entries.now a.payloads.now a.gaps.now a.remembered.now) _ (sym c.readable.ensures ∙ not-false _ (ap not c.if-not-readable.false)) c.session_of-read.ensures c.timeout_nack-answer.ensures c.timeout_told.ensures
+    was_read (alone Told.timeout_told) (Calls.timeout_nack a.now) a.session (storage a.entries.now a.payloads.now a.gaps.now a.remembered.now) _ (sym c.readable.ensures ∙ not-false _ (ap not c.if-not-readable.false)) c.session_of-read.ensures c.timeout_nack-answer.ensures c.timeout_told.ensures

@@ -7,7 +7,7 @@ use Rattle.config.specs.declared.RtpInboundQueueMode.{RtpInboundQueueMode}
 use Rattle.config.specs.declared.RtpInboundQueueMode.TheVariants.{Passthrough, SortedQueue}
 use Rattle.config.specs.declared.RtpInboundStreamSortedQueueMode.TheVariants.{Fixed, Dynamic}
 use Rattle.config.specs.Mode.{mode_number, no_dynamic, dynamic_of}
-use Rattle.settings_line.specs.Fields.{numbers_of, settings_of as settingsIn}
+use Rattle.settings_line.specs.Fields.{numbers_of, settings_of as settings_in}
 use Rattle.settings_line.proofs.Ranges.{settings_back}
 use Rattle.settings_words.specs.Words.{settings_of, words_of, mode_fits}
 use Rattle.settings_words.proofs.settings_are_kept.Goals as goal
@@ -23,7 +23,7 @@ fits s = go s.mode
     go (SortedQueue (Dynamic d)) = refl
 
 back : (s : Settings) → settings_of (words_of s) ≡ s
-unfolding settings_of words_of settingsIn numbers_of
+unfolding settings_of words_of settings_in numbers_of
 back = settings_back
 
 pub returns : goal.returns

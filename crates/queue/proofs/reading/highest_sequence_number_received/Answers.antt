@@ -13,11 +13,11 @@ use Rattle.queue.proofs.reading.highest_sequence_number_received.Goals as goal
 
 pub returns-then-refusal-ne0 : goal.returns-then-refusal-ne0
 unfolding highest_answer output_of refusal call_refusal
-returns-then-refusal-ne0 c = let a = c.args in refused-is Calls.highestReceived (stored a.session a.entries.now a.payloads.now a.gaps.now a.remembered.now) _ (c.session_refusal-refusal.ensures ∙ alone _) c.if-refusal-ne0.true
+returns-then-refusal-ne0 c = let a = c.args in refused-is Calls.highest_received (stored a.session a.entries.now a.payloads.now a.gaps.now a.remembered.now) _ (c.session_refusal-refusal.ensures ∙ alone _) c.if-refusal-ne0.true
 
 pub settle-requires : goal.settle-requires
 settle-requires c = let a = c.args in passed_16 (stored a.session a.entries.now a.payloads.now a.gaps.now a.remembered.now) (sym c.session_refusal-refusal.ensures ∙ c.if-refusal-ne0.false)
 
 pub returns : goal.returns
 unfolding highest_answer taken answered output_after refusal call_refusal parse
-returns c = let a = c.args in left_as_is Calls.highestReceived (stored a.session a.entries.now a.payloads.now a.gaps.now a.remembered.now) _ _ _ (c.session_refusal-refusal.ensures ∙ alone _) c.if-refusal-ne0.false refl refl (sym c.highest.ensures) c.settle.ensures
+returns c = let a = c.args in left_as_is Calls.highest_received (stored a.session a.entries.now a.payloads.now a.gaps.now a.remembered.now) _ _ _ (c.session_refusal-refusal.ensures ∙ alone _) c.if-refusal-ne0.false refl refl (sym c.highest.ensures) c.settle.ensures

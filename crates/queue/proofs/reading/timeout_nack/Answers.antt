@@ -13,7 +13,7 @@ use Rattle.queue.proofs.reading.timeout_nack.Goals as goal
 
 pub returns-then-refusal-ne0 : goal.returns-then-refusal-ne0
 unfolding timeout_answer output_of refusal call_refusal parse
-returns-then-refusal-ne0 c = let a = c.args in refused-is (Calls.timeoutNack a.now) (stored a.session a.entries.now a.payloads.now a.gaps.now a.remembered.now) _ c.session_and_clock_refusal-refusal.ensures c.if-refusal-ne0.true
+returns-then-refusal-ne0 c = let a = c.args in refused-is (Calls.timeout_nack a.now) (stored a.session a.entries.now a.payloads.now a.gaps.now a.remembered.now) _ c.session_and_clock_refusal-refusal.ensures c.if-refusal-ne0.true
 
 pub settle-requires : goal.settle-requires
 settle-requires c = let a = c.args in timely_sound (stored a.session a.entries.now a.payloads.now a.gaps.now a.remembered.now) a.now (sym c.session_and_clock_refusal-refusal.ensures ∙ c.if-refusal-ne0.false)
