@@ -31,8 +31,7 @@ pub mod settings;
 pub const VERSION: u64 = 3000;
 
 // A refused opening gives a session of zeros.
-#[unsafe(no_mangle)]
-pub extern "C" fn bizhgemu_open(
+pub fn bizhgemu_open(
     config: ConfigWords,
     entries: &mut [u64],
     payloads: &mut [u8],
@@ -55,8 +54,7 @@ pub extern "C" fn bizhgemu_open(
 }
 
 // In this and each later call: words that cannot be read are refused under 16, and a refused call gives the words back as they came.
-#[unsafe(no_mangle)]
-pub extern "C" fn bizhgemu_push(
+pub fn bizhgemu_push(
     session: SessionWords,
     entries: &mut [u64],
     payloads: &mut [u8],
@@ -89,8 +87,7 @@ fn session_in(words: SessionWords) -> Session
 }
 
 // 02, point 4: a burst of media datagrams. The words come back as they came where no datagram was accepted.
-#[unsafe(no_mangle)]
-pub extern "C" fn bizhgemu_push_burst(
+pub fn bizhgemu_push_burst(
     session: SessionWords,
     entries: &mut [u64],
     payloads: &mut [u8],
@@ -113,8 +110,7 @@ pub extern "C" fn bizhgemu_push_burst(
     answers::burst_told(done.refusal, written, accepted, session, left)
 }
 
-#[unsafe(no_mangle)]
-pub extern "C" fn bizhgemu_push_rtx(
+pub fn bizhgemu_push_rtx(
     session: SessionWords,
     entries: &mut [u64],
     payloads: &mut [u8],
@@ -135,8 +131,7 @@ pub extern "C" fn bizhgemu_push_rtx(
     answers::repair_told(answer, session, left)
 }
 
-#[unsafe(no_mangle)]
-pub extern "C" fn bizhgemu_poll(
+pub fn bizhgemu_poll(
     session: SessionWords,
     entries: &mut [u64],
     payloads: &mut [u8],
@@ -157,8 +152,7 @@ pub extern "C" fn bizhgemu_poll(
     answers::poll_told(answer, session, left)
 }
 
-#[unsafe(no_mangle)]
-pub extern "C" fn bizhgemu_poll_nack(
+pub fn bizhgemu_poll_nack(
     session: SessionWords,
     entries: &mut [u64],
     payloads: &mut [u8],
@@ -179,8 +173,7 @@ pub extern "C" fn bizhgemu_poll_nack(
     answers::nack_told(answer, session, left)
 }
 
-#[unsafe(no_mangle)]
-pub extern "C" fn bizhgemu_nack_wire(
+pub fn bizhgemu_nack_wire(
     session: SessionWords,
     entries: &mut [u64],
     payloads: &mut [u8],
@@ -202,15 +195,13 @@ pub extern "C" fn bizhgemu_nack_wire(
 }
 
 // The 16-bit numbers that the entries of a generic NACK name. No session is needed.
-#[unsafe(no_mangle)]
-pub extern "C" fn bizhgemu_read_nacks(entries: &[u8], out: &mut [u16]) -> ReadNumbers
+pub fn bizhgemu_read_nacks(entries: &[u8], out: &mut [u16]) -> ReadNumbers
     ensures { Exported.read_nacks entries.now out.old ≡ record { value = result; list = out.new } }
 {
     figures::numbers_told(read::read(entries, out))
 }
 
-#[unsafe(no_mangle)]
-pub extern "C" fn bizhgemu_timeout_receive(
+pub fn bizhgemu_timeout_receive(
     session: SessionWords,
     entries: &mut [u64],
     payloads: &mut [u8],
@@ -228,8 +219,7 @@ pub extern "C" fn bizhgemu_timeout_receive(
     figures::timeout_told(answer)
 }
 
-#[unsafe(no_mangle)]
-pub extern "C" fn bizhgemu_timeout_nack(
+pub fn bizhgemu_timeout_nack(
     session: SessionWords,
     entries: &mut [u64],
     payloads: &mut [u8],
@@ -247,8 +237,7 @@ pub extern "C" fn bizhgemu_timeout_nack(
     figures::timeout_told(answer)
 }
 
-#[unsafe(no_mangle)]
-pub extern "C" fn bizhgemu_rtx_stats(
+pub fn bizhgemu_rtx_stats(
     session: SessionWords,
     entries: &mut [u64],
     payloads: &mut [u8],
@@ -265,8 +254,7 @@ pub extern "C" fn bizhgemu_rtx_stats(
     figures::stats_told(answer)
 }
 
-#[unsafe(no_mangle)]
-pub extern "C" fn bizhgemu_highest_sequence_number_received(
+pub fn bizhgemu_highest_sequence_number_received(
     session: SessionWords,
     entries: &mut [u64],
     payloads: &mut [u8],
@@ -310,8 +298,7 @@ fn figures_told(q: Queue) -> Figures
 }
 
 // The inbound stream; refused under 16 where the settings or the session's own records do not pass it.
-#[unsafe(no_mangle)]
-pub extern "C" fn bizhgemu_figures(session: SessionWords) -> Figures
+pub fn bizhgemu_figures(session: SessionWords) -> Figures
     ensures { result ≡ Exported.figures session }
 {
     if !ffi_words::readable(session) {
@@ -333,8 +320,7 @@ fn no_lengths() -> Lengths
 }
 
 // How long the lent slices are to be, by D and G.
-#[unsafe(no_mangle)]
-pub extern "C" fn bizhgemu_lengths(max_entries: usize, max_gaps: usize) -> Lengths
+pub fn bizhgemu_lengths(max_entries: usize, max_gaps: usize) -> Lengths
     ensures { result ≡ Exported.lengths max_entries max_gaps }
 {
     if !config::depth_valid(max_entries) {
@@ -354,8 +340,7 @@ pub extern "C" fn bizhgemu_lengths(max_entries: usize, max_gaps: usize) -> Lengt
 }
 
 // So that a program can tell an archive that is not its header's.
-#[unsafe(no_mangle)]
-pub extern "C" fn bizhgemu_version() -> u64
+pub fn bizhgemu_version() -> u64
     ensures { result ≡ Exported.VERSION }
 {
     VERSION

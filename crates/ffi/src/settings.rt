@@ -5,16 +5,14 @@ ghost use Rattle.settings_words.specs.Words.{outcome, read_words, write_words};
 use settings_words::{SettingsRead, SettingsWords, SettingsWritten};
 
 // The settings that a line keeps: 21, 20 or 1 where it keeps none.
-#[unsafe(no_mangle)]
-pub extern "C" fn bizhgemu_read_settings(line: &[u8]) -> SettingsRead
+pub fn bizhgemu_read_settings(line: &[u8]) -> SettingsRead
     ensures { result ≡ read_words line.now }
 {
     settings_words::read(line)
 }
 
 // Writes the line of these settings, 145 bytes, to the front of `out`: 1, then 15, where none is written.
-#[unsafe(no_mangle)]
-pub extern "C" fn bizhgemu_write_settings(
+pub fn bizhgemu_write_settings(
     settings: SettingsWords,
     out: &mut [u8],
 ) -> SettingsWritten
