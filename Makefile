@@ -2,7 +2,7 @@
 #
 #   make install PREFIX=/usr/local DESTDIR=
 #
-# The archive is made by `rt staticlib ffi` where it is missing; ARCHIVE names another one, such as a release's.
+# The archive is made by `tools/build archive` where it is missing; ARCHIVE names another one, such as a release's.
 PREFIX ?= /usr/local
 DESTDIR ?=
 ARCHIVE ?= target/staticlib/libffi.a
@@ -18,7 +18,7 @@ DOCS := README.md CHANGELOG.md LICENSE NOTICE docs/USING.md docs/VERSIONS.md doc
 all: $(OUT)/$(SHARED) $(OUT)/bizhgemu.pc
 
 target/staticlib/libffi.a:
-	rt staticlib ffi
+	tools/build archive
 
 $(OUT)/$(SHARED): $(ARCHIVE) include/exported.map
 	@mkdir -p $(OUT)

@@ -1,4 +1,4 @@
-//! Links the proved library, which `rt staticlib ffi` writes to target/staticlib/libffi.a of this repository, and which a release has as
+//! Links the proved library, which `tools/build archive` writes to target/staticlib/libffi.a of this repository, and which a release has as
 //! lib/libbizhgemu.a. It is linked under the name `bizhgemu`, since a box may have the well-known libffi too.
 
 use std::path::{Path, PathBuf};
@@ -20,7 +20,7 @@ fn main() {
     }
     let Some(archive) = places.iter().find(|place| place.is_file()) else {
         println!(
-            "cargo::error=no {} in {}: run `rt staticlib ffi` at the top of the repository, or name the folder of an installed one in {FOLDER}",
+            "cargo::error=no {} in {}: run `tools/build archive` at the top of the repository, or name the folder of an installed one in {FOLDER}",
             NAMES.join(" or "),
             folders.iter().map(|folder| folder.display().to_string()).collect::<Vec<_>>().join(" or ")
         );

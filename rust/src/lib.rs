@@ -4,7 +4,7 @@
 //! The queue itself is written in Rattle and proved: for every input its answer, its state and every byte of its storage are
 //! what the definitions in this repository say, and a call it refuses changes nothing. This crate is the thin safe layer
 //! over its exported functions: it owns the memory, turns codes into enums and nanoseconds into [`Duration`](core::time::Duration).
-//! It links `target/staticlib/libffi.a`, which `rt staticlib ffi` makes.
+//! It links `target/staticlib/libffi.a`, which `tools/build archive` makes.
 //!
 //! # Use
 //!
