@@ -1,5 +1,5 @@
 //! The structs of the boundary and the refusals are written three times: in Rattle, in the C header, and in this crate. Structs are the same
-//! field by field, refusals by name and number.
+//! field by field, refusals by name and number. The functions that `ffi_c` exports are those of `ffi`, with the same arguments and clauses.
 
 use bizhgemu::Refusal;
 use std::collections::BTreeMap;
@@ -75,13 +75,30 @@ fn the_header_has_the_same_structs() {
 #[test]
 fn the_library_has_the_same_structs() {
     let mut library = Structs::new();
-    for folder in ["crates/ffi/src", "crates/ffi_words/src", "crates/settings_words/src"] {
+    for folder in ["crates/ffi/src", "crates/ffi_c/src", "crates/ffi_words/src", "crates/settings_words/src"] {
         for file in fs::read_dir(top().join(folder)).expect("the crates of the boundary") {
             let text = fs::read_to_string(file.unwrap().path()).unwrap();
             library.extend(of_rust(&text));
         }
     }
     assert_eq!(library, of_rust(include_str!("../src/ffi.rs")));
+}
+
+/// The functions of the boundary in a Rattle source, each from its arguments to its body, by name.
+fn functions(text: &str, before: &str) -> BTreeMap<String, String> {
+    let start = format!("\n{before}fn ");
+    let parts = text.split(&start).skip(1);
+    let heads = parts.filter(|part| part.starts_with("bizhgemu_")).filter_map(|part| part.split_once("\n{"));
+    heads.filter_map(|(head, _)| head.split_once('(')).map(|(name, rest)| (name.into(), rest.into())).collect()
+}
+
+#[test]
+fn the_archive_exports_each_function_under_its_clauses() {
+    let mut proved = functions(include_str!("../../crates/ffi/src/lib.rt"), "pub ");
+    proved.extend(functions(include_str!("../../crates/ffi/src/settings.rt"), "pub "));
+    assert_eq!(proved.len(), 17);
+    let exported = include_str!("../../crates/ffi_c/src/lib.rt");
+    assert_eq!(functions(exported, "#[unsafe(no_mangle)]\npub extern \"C\" "), proved);
 }
 
 /// A line that gives a name its number, as (name, number), the name in Rust's form: `NO_RTX` is `NoRtx`.
