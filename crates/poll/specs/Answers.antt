@@ -3,11 +3,8 @@ use Rattle.model.specs.Calls as Calls
 use Rattle.model.specs.Calls.{Answer, Packet}
 use Rattle.poll.specs.declared.HandedOut.{HandedOut}
 use Rattle.poll.specs.declared.PollAnswer.{PollAnswer}
-use Rattle.poll.specs.declared.PollAnswer.TheVariants as PollAnswer
 use Rattle.poll.specs.declared.nack.NackAnswer.{NackAnswer}
-use Rattle.poll.specs.declared.nack.NackAnswer.TheVariants as NackAnswer
 use Rattle.poll.specs.declared.wire.WireAnswer.{WireAnswer}
-use Rattle.poll.specs.declared.wire.WireAnswer.TheVariants as WireAnswer
 
 unfoldable pub packet_of : HandedOut → Packet
 packet_of h =

@@ -20,7 +20,7 @@ use Rattle.model.specs.Lists.{keep, some?}
 use Rattle.rtp.specs.Opt.{number_of}
 use Rattle.model.specs.Records.{Entry, Remembered, State}
 use Rattle.model.specs.Rules.{is, gap_of, without, once_of, instant_of, is_of, forget_first}
-use Rattle.model.specs.Push.{passed, insert_sorted, Fate, too_late, recovered, redundant, repair_fate, queue_too_late, queue_redundant, queue_recovered, after_fate}
+use Rattle.model.specs.Push.{passed, insert_sorted, too_late, recovered, redundant, repair_fate, queue_too_late, queue_redundant, queue_recovered, after_fate}
 use Rattle.model.specs.Storage.{Stored, entry_words, payload_bytes, arrival_word, entry_words_of, payload_bytes_of, gap_words_of, remembered_words_of, entry_places, entries_of, gaps_of, remembered_of, entries_laid, payloads_laid, gaps_laid, remembered_laid, parse, write}
 use Rattle.model.specs.Calls as Calls
 use Rattle.model.specs.Calls.{Answer}

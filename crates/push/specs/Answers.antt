@@ -6,9 +6,7 @@ use Rattle.model.specs.Calls.{Answer}
 use Rattle.model.specs.Storage.{Stored}
 use Rattle.model.specs.Did.{Done}
 use Rattle.push.specs.declared.MediaAnswer.{MediaAnswer}
-use Rattle.push.specs.declared.MediaAnswer.TheVariants as MediaAnswer
 use Rattle.push.specs.declared.rtx.RepairAnswer.{RepairAnswer}
-use Rattle.push.specs.declared.rtx.RepairAnswer.TheVariants as RepairAnswer
 
 unfoldable pub media_answer : MediaAnswer → Answer
 media_answer MediaAnswer.Queued = Calls.queued

@@ -2,9 +2,7 @@
 use Rattle.model.specs.Rules as Rules
 use Rattle.model.specs.Push as Push
 use Rattle.session.specs.declared.push.Place.{Place}
-use Rattle.session.specs.declared.push.Place.TheVariants as Place
 use Rattle.session.specs.declared.rtx.Fate.{Fate}
-use Rattle.session.specs.declared.rtx.Fate.TheVariants as Fate
 
 unfoldable pub place : Place → Rules.Place
 place Place.First = Rules.first

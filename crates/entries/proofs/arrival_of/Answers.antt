@@ -1,7 +1,6 @@
 -- `arrival_of`: a branch each.
 use Rattle.model.specs.Storage.{arrival_of}
 use Rattle.entries.proofs.Laws.{arrival-some}
-use borrow.Author.Rules.{rules}
 use Rattle.entries.proofs.arrival_of.Goals as goal
 
 pub returns-then-word-eq0 : goal.returns-then-word-eq0

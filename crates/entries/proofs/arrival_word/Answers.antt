@@ -3,7 +3,6 @@ use mathlib.Core.Path.{sym}
 use native.Mathlib.Omega.{arith}
 use Rattle.model.specs.Storage.{arrival_word}
 use Rattle.entries.proofs.Laws.{arrival-is}
-use borrow.Author.Rules.{rules}
 use Rattle.entries.proofs.arrival_word.Goals as goal
 
 pub overflow_add-result : goal.overflow_add-result

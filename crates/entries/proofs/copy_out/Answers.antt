@@ -2,7 +2,6 @@
 use mathlib.Core.Path.{sym}
 use native.Mathlib.Omega.{arith}
 use lib.Seq.{length-take-le}
-use borrow.Author.Rules.{rules}
 use Rattle.entries.proofs.copy_out.Goals as goal
 
 pub slice_bounds-copy-end : goal.slice_bounds-copy-end

@@ -1,7 +1,6 @@
 -- `read`: an entry is made of its four words.
 use mathlib.Core.Path.{◌∙◌}
 use Rattle.entries.proofs.Laws.{entry-words}
-use borrow.Author.Rules.{rules}
 use Rattle.entries.proofs.read.Goals as goal
 
 pub returns : goal.returns

@@ -1,7 +1,6 @@
 -- `size_word`: a branch each.
 use native.Mathlib.Omega.{arith}
 use Rattle.model.specs.Storage.{bit}
-use borrow.Author.Rules.{rules}
 use Rattle.entries.proofs.size_word.Goals as goal
 
 pub returns-then-marker : goal.returns-then-marker

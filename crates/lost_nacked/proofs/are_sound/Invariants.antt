@@ -1,13 +1,10 @@
 -- `are_sound`: those from place i on decide.
-use mathlib.Core.Path.{◌≡◌, refl, sym, ◌∙◌}
+use mathlib.Core.Path.{◌≡◌}
 use Prim.Native.Nat.{◌-◌, ◌≤◌}
 use lib.ListN.{drop}
 use Rattle.model.specs.Lists.{every?}
 use Rattle.model.specs.Storage.{remembered_of}
 use Rattle.model.specs.Valid.{remembered_sound}
-use Rattle.lost_nacked.specs.Remembered.{remembered}
-use Rattle.lost_nacked.proofs.Laws.{sound-number, sound_instant, sound_more, sound-end}
-use borrow.Author.Rules.{rules}
 use Rattle.lost_nacked.proofs.are_sound.Given as goal
 
 abbrev pub invariant-loop-i : goal.invariant-loop-i

@@ -1,6 +1,6 @@
 -- `count_once`: it is the count of the gaps from place i on.
 use mathlib.Core.Path.{◌≡◌, sym, ap, ◌∙◌}
-use Prim.Native.Nat.{ℕ, ◌+◌, ◌-◌, ◌≤◌}
+use Prim.Native.Nat.{ℕ, ◌+◌, ◌-◌}
 use native.Mathlib.Omega.{arith}
 use lib.ListN.{length, drop}
 use Rattle.model.specs.Lists.{keep}
@@ -8,7 +8,6 @@ use Rattle.model.specs.Storage.{gaps_of}
 use Rattle.packet_gaps.specs.Gaps.{gap}
 use Rattle.model.specs.Rules.{once}
 use Rattle.lost_nacked.proofs.Laws.{once_more, once_skip, once-end}
-use borrow.Author.Rules.{rules}
 use Rattle.lost_nacked.proofs.count_once.Goals as goal
 
 pub loop-i-init : goal.loop-i-init

@@ -2,7 +2,6 @@
 use mathlib.Core.Path.{◌∙◌}
 use Rattle.lost_nacked.specs.Remembered.{remembered}
 use Rattle.lost_nacked.proofs.Laws.{forget_instant, forget-words, forget-none, forget-same}
-use borrow.Author.Rules.{rules}
 use Rattle.lost_nacked.proofs.forget.Goals as goal
 
 pub returns-then-k-n : goal.returns-then-k-n

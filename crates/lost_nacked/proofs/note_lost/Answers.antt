@@ -5,7 +5,6 @@ use Rattle.model.proofs.Laid.{length-gaps_of}
 use Rattle.model.proofs.Lists.{length-keep}
 use Rattle.model.specs.Rules.{once}
 use Rattle.lost_nacked.proofs.Noting.{note_count, note_in, note_length, note_words}
-use borrow.Author.Rules.{rules}
 use Rattle.lost_nacked.proofs.note_lost.Goals as goal
 
 pub overflow_add-n : goal.overflow_add-n

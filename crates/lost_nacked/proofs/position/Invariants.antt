@@ -1,13 +1,10 @@
 -- `position`: those before place i are of other numbers than x, and those from it on decide.
 use mathlib.Core.Path.{◌≡◌}
 use Prim.Native.Nat.{◌+◌, ◌-◌, ◌≤◌}
-use native.Mathlib.Omega.{arith}
 use lib.ListN.{length, drop}
 use Rattle.model.specs.Lists.{leading}
 use Rattle.model.specs.Storage.{remembered_of}
-use Rattle.lost_nacked.specs.Remembered.{remembered, another}
-use Rattle.lost_nacked.proofs.Laws.{position_found, position_more, position_end}
-use borrow.Author.Rules.{rules}
+use Rattle.lost_nacked.specs.Remembered.{another}
 use Rattle.lost_nacked.proofs.position.Given as goal
 
 abbrev pub invariant-loop-i : goal.invariant-loop-i

@@ -1,7 +1,6 @@
 -- `push_back`: the array holds the words of the number.
 use Rattle.model.specs.Rules.{remember}
 use Rattle.model.specs.Storage.{remembered_words_of}
-use borrow.Author.Rules.{rules}
 use Rattle.lost_nacked.proofs.push_back.Goals as goal
 
 pub returns : goal.returns

@@ -1,7 +1,6 @@
 -- `tidy`: words and records take each other back.
 use mathlib.Core.Path.{◌∙◌}
 use Rattle.lost_nacked.proofs.Laws.{tidied}
-use borrow.Author.Rules.{rules}
 use Rattle.lost_nacked.proofs.tidy.Goals as goal
 
 pub returns : goal.returns

@@ -4,7 +4,6 @@ use borrow.Author.Tests.{not-true, not-false}
 use Rattle.model.specs.Contract.{stored}
 use Rattle.poll.specs.Answers.{poll_answer}
 use Rattle.poll.proofs.Polling.{drains, nothing_out, is_handing, is_lost, is-delay, packet_out}
-use borrow.Author.Rules.{rules}
 use Rattle.poll.proofs.accept.Goals as goal
 
 pub drain-drained-requires : goal.drain-drained-requires

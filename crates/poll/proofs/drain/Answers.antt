@@ -4,7 +4,6 @@ use native.Mathlib.Omega.{arith}
 use Rattle.model.specs.Storage.{gaps_of}
 use Rattle.model.proofs.Laid.{length-gaps_of}
 use Rattle.poll.proofs.Parted.{given-few, not-given-up, drained-is}
-use borrow.Author.Rules.{rules}
 use Rattle.poll.proofs.drain.Goals as goal
 
 pub drained-drained-requires : goal.drained-drained-requires

@@ -11,7 +11,6 @@ use Rattle.model.proofs.Laid.{length-entries_of}
 use Rattle.model.specs.Contract.{stored}
 use Rattle.poll.proofs.Fronts.{hands_some, first-is}
 use Rattle.poll.proofs.Losing.{due-none, due-some}
-use borrow.Author.Rules.{rules}
 use mathlib.Core.Bool.{not}
 use Rattle.poll.proofs.effect_at.Goals as goal
 

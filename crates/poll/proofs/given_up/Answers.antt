@@ -2,7 +2,6 @@
 use mathlib.Core.Path.{◌≡◌}
 use Rattle.config.specs.declared.RtpInboundQueueMode.TheVariants.{Passthrough, SortedQueue}
 use Rattle.model.specs.Rules.{given_up_in}
-use borrow.Author.Rules.{rules}
 use Rattle.poll.proofs.given_up.Goals as goal
 
 pub returns-in-Passthrough : goal.returns-in-Passthrough

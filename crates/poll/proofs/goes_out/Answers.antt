@@ -6,7 +6,6 @@ use Rattle.model.specs.Records.{Entry}
 use Rattle.model.specs.Poll.{ready_in, ready}
 use Rattle.model.specs.Storage.{payload_bytes}
 use Rattle.poll.proofs.Fronts.{hands_none, hands_first}
-use borrow.Author.Rules.{rules}
 use Rattle.poll.proofs.goes_out.Goals as goal
 
 pub returns-then-n-eq0 : goal.returns-then-n-eq0

@@ -11,7 +11,6 @@ use Rattle.model.specs.Storage.{gaps_of}
 use Rattle.model.specs.Calls.{handed, packet}
 use Rattle.poll.specs.Answers.{poll_answer}
 use Rattle.poll.proofs.Handed.{lost-few, payload-size, handed_leaves}
-use borrow.Author.Rules.{rules}
 use Rattle.poll.proofs.hand_out.Goals as goal
 
 pub remember-count-requires : goal.remember-count-requires

@@ -2,7 +2,6 @@
 use mathlib.Core.Path.{◌≡◌}
 use Rattle.config.specs.declared.RtpInboundQueueMode.TheVariants.{Passthrough, SortedQueue}
 use Rattle.model.specs.Rules.{lost_below_of}
-use borrow.Author.Rules.{rules}
 use Rattle.poll.proofs.lost_below.Goals as goal
 
 pub returns-in-Passthrough : goal.returns-in-Passthrough

@@ -1,7 +1,6 @@
 -- `packet` meets its contract: field by field.
 use Rattle.model.specs.Calls as Calls
 use Rattle.poll.specs.Answers as Answers
-use borrow.Author.Rules.{rules}
 use Rattle.poll.proofs.packet.Goals as goal
 
 pub returns : goal.returns

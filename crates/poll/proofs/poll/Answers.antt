@@ -6,7 +6,6 @@ use Rattle.model.specs.Contract.{stored}
 use Rattle.poll.specs.Answers.{poll_answer}
 use Rattle.poll.proofs.Early.{early_refusal, early_is}
 use Rattle.poll.proofs.Polling.{poll_early, poll_counted, poll_fits, poll_late, poll_sound, poll_taken, poll_done}
-use borrow.Author.Rules.{rules}
 use Rattle.poll.proofs.poll.Goals as goal
 
 pub returns-then-early-ne0 : goal.returns-then-early-ne0

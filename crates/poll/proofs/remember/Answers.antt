@@ -2,7 +2,6 @@
 use mathlib.Core.Path.{sym}
 use Rattle.model.specs.Rules.{remembered_after}
 use Rattle.model.proofs.Laid.{length-remembered_of}
-use borrow.Author.Rules.{rules}
 use Rattle.poll.proofs.remember.Goals as goal
 
 pub returns-then-q : goal.returns-then-q

@@ -1,5 +1,4 @@
 -- `apply` meets its contract: what was found is what `place_packet` asks for.
-use borrow.Author.Rules.{rules}
 use Rattle.model.specs.Contract.{stored}
 use Rattle.model.specs.Storage.{Stored}
 use Rattle.push.proofs.Pushing.{payload-is, fit_of, answered_as, taken_as}

@@ -1,7 +1,6 @@
 -- `extended_entry`: field by field.
 use Rattle.model.specs.Push.{extended_entry}
 use mathlib.Core.Path.{refl}
-use borrow.Author.Rules.{rules}
 use Rattle.push.proofs.extended_entry.Goals as goal
 
 pub returns : goal.returns

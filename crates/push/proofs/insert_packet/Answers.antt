@@ -2,7 +2,6 @@
 use Rattle.push.proofs.Media.{ready_for, counters_fit, takes, inserted-packet}
 use Rattle.model.specs.Contract.{stored}
 use native.Mathlib.Omega.{arith}
-use borrow.Author.Rules.{rules}
 use Rattle.push.proofs.insert_packet.Goals as goal
 
 pub queued-queue-requires : goal.queued-queue-requires

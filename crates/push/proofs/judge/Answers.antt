@@ -1,6 +1,5 @@
 -- `judge` meets its contract: the clock, the datagram's own checks, and then `judge_packet`.
 use mathlib.Core.Path.{sym, ◌∙◌}
-use borrow.Author.Rules.{rules}
 use Rattle.rtp_packet.specs.Datagram.{largest_payload}
 use Rattle.rtp_packet.proofs.Answers.{parsed-packet, parsed-refused}
 use Rattle.model.specs.Contract.{stored}

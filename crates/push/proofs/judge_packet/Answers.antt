@@ -2,7 +2,6 @@
 use native.Mathlib.Omega.{arith}
 use lib.ListN.{length}
 use mathlib.Core.Path.{ap}
-use borrow.Author.Rules.{rules}
 use Rattle.rtp_packet.specs.Datagram.{largest_payload}
 use Rattle.rtp_packet.proofs.Bounds.{payload-fits}
 use Rattle.model.specs.Contract.{stored}

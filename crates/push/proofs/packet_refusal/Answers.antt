@@ -1,6 +1,5 @@
 -- `packet_refusal`: 14 and 12 as the definition joins them.
 use Rattle.push.proofs.Media.{packet-refusal-is}
-use borrow.Author.Rules.{rules}
 use Rattle.push.proofs.packet_refusal.Goals as goal
 
 pub returns : goal.returns

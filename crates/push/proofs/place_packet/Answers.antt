@@ -8,7 +8,6 @@ use Rattle.push.specs.Answers.{media_answer}
 use Rattle.model.specs.Contract.{stored}
 use Rattle.model.specs.Calls.{placed_answer}
 use Rattle.push.proofs.Media.{dropped_fits, dropped_packet}
-use borrow.Author.Rules.{rules}
 use mathlib.Core.Path.{ap}
 use mathlib.Core.Bool.{not}
 use Rattle.push.proofs.place_packet.Goals as goal

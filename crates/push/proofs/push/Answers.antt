@@ -1,6 +1,5 @@
 -- `push` meets its contract: row 16, and then `push_checked`.
 use mathlib.Core.Path.{sym, ◌∙◌}
-use borrow.Author.Rules.{rules}
 use Rattle.model.specs.Contract.{stored}
 use Rattle.model.specs.Storage.{Stored}
 use Rattle.storage.proofs.Settled.{passed_16}

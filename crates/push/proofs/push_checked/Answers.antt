@@ -1,6 +1,5 @@
 -- `push_checked` meets its contract: turned back, or applied to the settled storage.
 use mathlib.Core.Path.{sym, subst}
-use borrow.Author.Rules.{rules}
 use Rattle.model.specs.Contract.{stored}
 use Rattle.model.specs.Storage.{Stored, parse}
 use Rattle.storage.proofs.Settled.{settled_of}

@@ -2,7 +2,6 @@
 use Rattle.push.proofs.Media.{ready_for, counters_fit, takes, opened_in, opened-ascend, still_fits, pushed_out_packet}
 use Rattle.model.specs.Contract.{stored}
 use mathlib.Core.List.{[]}
-use borrow.Author.Rules.{rules}
 use Rattle.push.proofs.push_out_packet.Goals as goal
 
 pub queued-queued-requires : goal.queued-queued-requires

@@ -1,6 +1,5 @@
 -- `push_settled` meets its contract: turned back, or applied.
 use mathlib.Core.Path.{refl, subst}
-use borrow.Author.Rules.{rules}
 use Rattle.model.specs.Contract.{stored}
 use Rattle.model.specs.Storage.{Stored, parse}
 use Rattle.push.specs.declared.Judged.{Judged}

@@ -1,7 +1,6 @@
 -- `queue_packet` meets its contract: at the depth, or below it.
 use mathlib.Core.Path.{sym, ◌∙◌}
 use borrow.Author.Tests.{leb-true, leb-false}
-use borrow.Author.Rules.{rules}
 use Rattle.push.proofs.Media.{full_is}
 use Rattle.push.proofs.queue_packet.Goals as goal
 

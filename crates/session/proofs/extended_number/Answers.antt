@@ -5,7 +5,6 @@ use Rattle.model.specs.declared.LastReceived.TheVariants.{None}
 use Rattle.model.specs.Push.{extended_number}
 use Rattle.model.specs.Records.{highest_of}
 use Rattle.model.specs.Rules.{extended}
-use borrow.Author.Rules.{rules}
 use Rattle.session.proofs.extended_number.Goals as goal
 
 pub returns-in-None : goal.returns-in-None

@@ -5,7 +5,6 @@ use Rattle.model.specs.declared.LastReceived.TheVariants.{None}
 use Rattle.model.specs.Push.{extended_timestamp}
 use Rattle.model.specs.Records.{last_timestamp_of}
 use Rattle.model.specs.Rules.{extended}
-use borrow.Author.Rules.{rules}
 use Rattle.session.proofs.extended_timestamp.Goals as goal
 
 pub returns-in-None : goal.returns-in-None

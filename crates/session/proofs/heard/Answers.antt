@@ -2,7 +2,6 @@
 use mathlib.Core.Path.{◌≡◌}
 use Rattle.model.specs.declared.LastReceived.TheVariants.{None}
 use Rattle.model.specs.Push.{heard, jitter_after}
-use borrow.Author.Rules.{rules}
 use Rattle.session.proofs.heard.Goals as goal
 
 pub returns-in-None : goal.returns-in-None

@@ -1,6 +1,5 @@
 -- `lose` meets its contract: the struct anew is the definition's.
 use Rattle.model.specs.Poll.{lose, count_lost}
-use borrow.Author.Rules.{rules}
 use Rattle.session.proofs.lose.Goals as goal
 
 pub returns : goal.returns

@@ -3,7 +3,6 @@ use mathlib.Core.Path.{◌≡◌, refl, ap}
 use mathlib.Core.Bool.{Bool, true, false, not}
 use Rattle.model.specs.Push.{passed}
 use Rattle.model.specs.Valid.{Bounds, bounds_of, not_passed}
-use borrow.Author.Rules.{rules}
 use Rattle.session.proofs.passed.Goals as goal
 
 not-not : (b : Bool) → not (not b) ≡ b

@@ -1,7 +1,6 @@
 -- `counts_fit` meets its contract: the same tests.
 use mathlib.Core.Path.{refl}
 use Rattle.model.specs.Valid.{counts_fit}
-use borrow.Author.Rules.{rules}
 use Rattle.storage.proofs.counts_fit.Goals as goal
 
 pub returns : goal.returns

@@ -1,7 +1,6 @@
 -- `lengths_fit` meets its contract: the same tests.
 use mathlib.Core.Path.{refl}
 use Rattle.model.specs.Storage.{lengths_fit}
-use borrow.Author.Rules.{rules}
 use Rattle.storage.proofs.lengths_fit.Goals as goal
 
 pub returns : goal.returns

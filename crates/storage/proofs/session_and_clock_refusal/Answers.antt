@@ -1,6 +1,5 @@
 -- `session_and_clock_refusal` meets its contract by those of the two checks.
 use mathlib.Core.Path.{◌∙◌}
-use borrow.Author.Rules.{rules}
 use Rattle.storage.proofs.session_and_clock_refusal.Goals as goal
 
 pub returns : goal.returns

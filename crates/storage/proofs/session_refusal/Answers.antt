@@ -2,7 +2,6 @@
 use mathlib.Core.Path.{sym, ◌∙◌}
 use Rattle.refusals.specs.Refusals.{refuse_if}
 use Rattle.model.specs.Table.{session_refusal}
-use borrow.Author.Rules.{rules}
 use Rattle.storage.proofs.session_refusal.Goals as goal
 
 pub returns-then-session_sound : goal.returns-then-session_sound

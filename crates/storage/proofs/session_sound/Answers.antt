@@ -3,7 +3,6 @@ use mathlib.Core.Path.{sym, ◌∙◌}
 use borrow.Author.Tests.{not-true, not-false}
 use Rattle.model.specs.Contract.{storage, stored}
 use Rattle.storage.proofs.Checking.{lengths_of, counts_of, room_of, valid_usable, bad_config, bad_lengths, bad_counts, bad_queue, left-lists}
-use borrow.Author.Rules.{rules}
 use mathlib.Core.Path.{ap}
 use mathlib.Core.Bool.{not}
 use Rattle.storage.proofs.session_sound.Goals as goal

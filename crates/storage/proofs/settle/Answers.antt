@@ -2,7 +2,6 @@
 use Rattle.model.specs.Storage.{parse}
 use Rattle.model.specs.Contract.{stored}
 use Rattle.storage.proofs.Settled.{checked, settled}
-use borrow.Author.Rules.{rules}
 use Rattle.storage.proofs.settle.Goals as goal
 
 pub tidy-requires : goal.tidy-requires

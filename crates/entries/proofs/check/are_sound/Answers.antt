@@ -1,12 +1,10 @@
 -- `are_sound`: the entries from place i on decide, whatever the bytes.
-use mathlib.Core.Path.{◌≡◌, refl, sym, ◌∙◌}
-use mathlib.Core.List.{List}
-use Prim.Native.Nat.{ℕ, ◌-◌, ◌≤◌}
+use mathlib.Core.Path.{refl, sym, ◌∙◌}
 use borrow.Author.Tests.{not-true, not-false}
 use Rattle.model.specs.Storage.{gaps_of}
 use Rattle.packet_gaps.specs.Gaps.{bounds}
 use Rattle.packet_gaps.proofs.Turns.{left, left_bad, left-last, left_unordered, left_more}
-use Rattle.entries.proofs.Scan.{entries_left, scanned, number_word, scan_end}
+use Rattle.entries.proofs.Scan.{scanned, number_word, scan_end}
 use borrow.Author.Rules.{rules}
 use mathlib.Core.Path.{ap}
 use mathlib.Core.Bool.{not}

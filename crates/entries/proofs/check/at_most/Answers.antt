@@ -1,6 +1,5 @@
 -- `at_most`: each arm is a line of the definition.
 use Rattle.rtp.specs.Opt.{number_of, at_most}
-use borrow.Author.Rules.{rules}
 use Rattle.entries.proofs.check.at_most.Goals as goal
 
 pub returns-in-None : goal.returns-in-None

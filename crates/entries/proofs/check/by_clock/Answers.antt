@@ -1,6 +1,5 @@
 -- `by_clock`: each arm is a line of the definition.
 use Rattle.model.specs.Valid.{by_clock}
-use borrow.Author.Rules.{rules}
 use Rattle.entries.proofs.check.by_clock.Goals as goal
 
 pub returns-in-None : goal.returns-in-None

@@ -1,6 +1,5 @@
 -- `entry_sound`: the definition, as it stands.
 use Rattle.model.specs.Valid.{fields_sound}
-use borrow.Author.Rules.{rules}
 use Rattle.entries.proofs.check.entry_sound.Goals as goal
 
 pub returns : goal.returns

@@ -1,7 +1,6 @@
 -- `tidy`: the words of an entry are as they are read, and `tidy_places` does the bytes.
 use mathlib.Core.Path.{◌∙◌}
 use Rattle.entries.proofs.Scan.{words_tidied}
-use borrow.Author.Rules.{rules}
 use Rattle.entries.proofs.check.tidy.Goals as goal
 
 pub returns : goal.returns

@@ -1,6 +1,5 @@
 -- `tidy_places`: the loop keeps `Tidying`.
-use Prim.Native.Nat.{◌-◌}
-use Rattle.entries.proofs.Scan.{Tidying, tidying_none, tidying_fits, tidying_more, tidying_all}
+use Rattle.entries.proofs.Scan.{tidying_none, tidying_fits, tidying_more, tidying_all}
 use borrow.Author.Rules.{rules}
 use Rattle.entries.proofs.check.tidy_places.Goals as goal
 

@@ -1,7 +1,6 @@
 -- `tidy_places`: the loop keeps `Tidying`.
 use Prim.Native.Nat.{◌-◌}
-use Rattle.entries.proofs.Scan.{Tidying, tidying_none, tidying_fits, tidying_more, tidying_all}
-use borrow.Author.Rules.{rules}
+use Rattle.entries.proofs.Scan.{Tidying}
 use Rattle.entries.proofs.check.tidy_places.Given as goal
 
 abbrev pub invariant-loop-i : goal.invariant-loop-i

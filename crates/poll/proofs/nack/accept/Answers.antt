@@ -8,7 +8,6 @@ use Rattle.model.specs.Records.{Gap}
 use Rattle.model.specs.Rules.{truncated}
 use Rattle.model.specs.Calls.{nack_answer}
 use Rattle.poll.proofs.Nacking.{due-is, left-held, left_fewer, left-instants, left-none-full, left-nacked}
-use borrow.Author.Rules.{rules}
 use Rattle.poll.proofs.nack.accept.Goals as goal
 
 pub drain-drained-requires : goal.drain-drained-requires

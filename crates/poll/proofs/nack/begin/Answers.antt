@@ -8,7 +8,6 @@ use Rattle.poll.specs.Nacking.{found_in_of, judged_by, nack_refusal, settled_by}
 use Rattle.poll.specs.declared.nack.Found.{Found}
 use Rattle.poll.specs.declared.nack.Judged.TheVariants.{Refused}
 use Rattle.poll.proofs.Nacking.{judging, judged_refused, judged_passed, begin_damaged, begin_judged, says-refused, says-passed, left_alone, settled-by}
-use borrow.Author.Rules.{rules}
 use Rattle.poll.proofs.nack.begin.Goals as goal
 
 -- a number that is the call's refusal, and nothing is touched

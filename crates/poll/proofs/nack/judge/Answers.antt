@@ -3,7 +3,6 @@ use mathlib.Core.Path.{sym, ap, ◌∙◌}
 use Rattle.model.specs.Storage.{gaps_of}
 use Rattle.poll.specs.Nacking.{found_in_of, judged_by}
 use Rattle.poll.proofs.Nacking.{judge_early, judge_late, judge_clock, says-refused, says-passed, small_are, found_is}
-use borrow.Author.Rules.{rules}
 use Rattle.poll.proofs.nack.judge.Goals as goal
 
 pub returns-then-early-ne0 : goal.returns-then-early-ne0

@@ -7,7 +7,6 @@ use Rattle.model.specs.Contract.{stored}
 use Rattle.poll.specs.Answers.{nack_answer}
 use Rattle.poll.specs.Nacking.{found_in_of}
 use Rattle.poll.proofs.Nacking.{judged_refused, judged_passed, turned_back_lem, nack-places, nacking, all_done, list-refusal, list-accepted}
-use borrow.Author.Rules.{rules}
 use Rattle.poll.proofs.nack.poll_nack.Goals as goal
 
 pub accept-requires : goal.accept-requires

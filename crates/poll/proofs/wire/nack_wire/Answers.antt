@@ -10,7 +10,6 @@ use Rattle.model.specs.Contract.{stored}
 use Rattle.poll.specs.Answers.{wire_answer}
 use Rattle.poll.specs.Nacking.{found_in_of}
 use Rattle.poll.proofs.Nacking.{judged_refused, judged_passed, turned_back_lem, nack-places, nacking, all_done, wire-refusal, wire-accepted}
-use borrow.Author.Rules.{rules}
 use Rattle.poll.proofs.wire.nack_wire.Goals as goal
 
 pub accept-requires : goal.accept-requires

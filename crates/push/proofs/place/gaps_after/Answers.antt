@@ -7,7 +7,6 @@ use native.Mathlib.Omega.{arith}
 use mathlib.Core.Path.{◌≡◌, refl, sym}
 use lib.ListN.{length}
 use Rattle.model.specs.Storage.{gaps_of}
-use borrow.Author.Rules.{rules}
 use Rattle.push.proofs.place.gaps_after.Goals as goal
 
 pub open_between-requires : goal.open_between-requires

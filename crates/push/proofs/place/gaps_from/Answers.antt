@@ -6,7 +6,6 @@ use lib.ListN.{length, drop}
 use Prim.Native.Nat.{ℕ}
 use native.Mathlib.Omega.{arith}
 use mathlib.Core.Path.{sym, ap, ◌∙◌}
-use borrow.Author.Rules.{rules}
 use Rattle.push.proofs.place.gaps_from.Goals as goal
 
 pub drain-requires : goal.drain-requires

@@ -1,7 +1,6 @@
 -- `media_place` meets its contract: the definition's tests in their order.
 use Rattle.model.specs.Push.{place_in}
 use Rattle.session.specs.Place.{place}
-use borrow.Author.Rules.{rules}
 use Rattle.push.proofs.place.media_place.Goals as goal
 
 pub returns-then-passed : goal.returns-then-passed

@@ -2,7 +2,6 @@
 use Rattle.session.specs.Place.{place}
 use Rattle.model.specs.Rules.{place_of}
 use borrow.Author.Tests.{lt-ltb, le-ltb, le-leb, lt-leb}
-use borrow.Author.Rules.{rules}
 use Rattle.push.proofs.place.place_after.Goals as goal
 
 pub returns-then-x-h-le-MAX_GAP_SIZE : goal.returns-then-x-h-le-MAX_GAP_SIZE

@@ -2,7 +2,6 @@
 use Rattle.session.specs.Place.{place}
 use Rattle.model.specs.Rules.{place_of}
 use Rattle.model.specs.Records.{highest_of}
-use borrow.Author.Rules.{rules}
 use Rattle.push.proofs.place.place_of.Goals as goal
 
 pub returns-in-None : goal.returns-in-None

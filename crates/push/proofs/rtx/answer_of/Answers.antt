@@ -1,7 +1,6 @@
 -- `answer_of`, arm by arm.
 use Rattle.push.specs.Answers.{repair_answer}
 use Rattle.session.specs.Place.{fate}
-use borrow.Author.Rules.{rules}
 use Rattle.push.proofs.rtx.answer_of.Goals as goal
 
 pub returns-in-TooLate : goal.returns-in-TooLate

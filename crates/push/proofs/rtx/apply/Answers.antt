@@ -2,7 +2,6 @@
 use Rattle.push.proofs.Repaired.{redundant_is}
 use Rattle.model.specs.Contract.{stored}
 use Rattle.session.specs.Place.{fate}
-use borrow.Author.Rules.{rules}
 use Rattle.push.proofs.rtx.apply.Goals as goal
 
 pub too_late-requires : goal.too_late-requires

@@ -3,7 +3,6 @@ use Rattle.session.specs.Place.{fate}
 use Rattle.refusals.specs.Refusals.{refuse_if}
 use Rattle.model.specs.Table.{no_place}
 use borrow.Author.Tests.{le-leb, lt-leb}
-use borrow.Author.Rules.{rules}
 use Rattle.push.proofs.rtx.entries_refusal.Goals as goal
 
 pub returns-then-places-n : goal.returns-then-places-n

@@ -1,6 +1,5 @@
 -- `fate_refusal`: 14 and 13 as the definition joins them.
 use Rattle.push.proofs.Repaired.{fate-refusal-is}
-use borrow.Author.Rules.{rules}
 use Rattle.push.proofs.rtx.fate_refusal.Goals as goal
 
 pub returns : goal.returns

@@ -1,7 +1,6 @@
 -- `left_after`, arm by arm.
 use Rattle.push.specs.Repair.{left_after}
 use native.Mathlib.Omega.{arith}
-use borrow.Author.Rules.{rules}
 use Rattle.push.proofs.rtx.left_after.Goals as goal
 
 pub overflow_sub-result : goal.overflow_sub-result

@@ -8,7 +8,6 @@ use Rattle.model.specs.Storage.{Stored, parse}
 use Rattle.model.specs.Push.{repair_fate}
 use native.Mathlib.Omega.{arith}
 use mathlib.Core.Path.{sym, ◌∙◌}
-use borrow.Author.Rules.{rules}
 use Rattle.push.proofs.rtx.push_original.Goals as goal
 
 pub repair_fate-fate-requires : goal.repair_fate-fate-requires

@@ -8,7 +8,6 @@ use Rattle.rtp.specs.declared.SequenceNumber.{SequenceNumber}
 use lib.ListN.{length}
 use native.Mathlib.Omega.{arith}
 use mathlib.Core.Path.{sym, ap, ◌∙◌}
-use borrow.Author.Rules.{rules}
 use Rattle.push.proofs.rtx.push_repair.Goals as goal
 
 pub returns-then-refusal-ne0 : goal.returns-then-refusal-ne0

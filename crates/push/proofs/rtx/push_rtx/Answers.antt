@@ -13,7 +13,6 @@ use Rattle.refusals.proofs.Laws.{or_else-none}
 use lib.ListN.{length}
 use native.Mathlib.Omega.{arith}
 use mathlib.Core.Path.{sym, ap, ◌∙◌}
-use borrow.Author.Rules.{rules}
 use Rattle.push.proofs.rtx.push_rtx.Goals as goal
 
 pub returns-then-refusal-ne0 : goal.returns-then-refusal-ne0

@@ -3,7 +3,6 @@ use Rattle.push.proofs.Repaired.{ready_repair, open_gap, room-left, recovered_is
 use Rattle.push.proofs.Placing.{length-filled}
 use Rattle.model.specs.Contract.{stored}
 use native.Mathlib.Omega.{arith}
-use borrow.Author.Rules.{rules}
 use Rattle.push.proofs.rtx.recover.Goals as goal
 
 pub remove-nacked-requires : goal.remove-nacked-requires

@@ -1,7 +1,6 @@
 -- `repair_fate` meets its contract: the definition's tests.
 use Rattle.model.specs.Push.{fate_in}
 use Rattle.session.specs.Place.{fate}
-use borrow.Author.Rules.{rules}
 use Rattle.push.proofs.rtx.repair_fate.Goals as goal
 
 pub returns-then-passed : goal.returns-then-passed

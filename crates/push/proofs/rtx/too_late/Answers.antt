@@ -1,7 +1,6 @@
 -- `too_late` meets its contract: the remembered numbers and the repair state, each as `model` says.
 use Rattle.push.proofs.Repaired.{ready_late, taken-some, late_is}
 use Rattle.model.specs.Contract.{stored}
-use borrow.Author.Rules.{rules}
 use Rattle.push.proofs.rtx.too_late.Goals as goal
 
 pub forget-nacked-requires : goal.forget-nacked-requires

@@ -2,7 +2,6 @@
 use mathlib.Core.Path.{ap, ◌∙◌}
 use Rattle.config.specs.Timings.{nack_timings}
 use Rattle.model.specs.Rules.{timings_in}
-use borrow.Author.Rules.{rules}
 use Rattle.session.proofs.nack.nack_timings.Goals as goal
 
 pub returns : goal.returns

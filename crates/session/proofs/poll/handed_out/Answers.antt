@@ -1,5 +1,4 @@
 -- `handed_out`: what the two callees say.
-use borrow.Author.Rules.{rules}
 use Rattle.session.proofs.poll.handed_out.Goals as goal
 
 pub returns : goal.returns

@@ -3,7 +3,6 @@ use borrow.Author.Tests.{lt-ltb, le-ltb}
 use Rattle.model.specs.Lists.{some?}
 use Rattle.refusals.specs.Refusals.{refuse_if}
 use Rattle.model.specs.Table.{count_refusal}
-use borrow.Author.Rules.{rules}
 use Rattle.session.proofs.poll.lost_refusal.Goals as goal
 
 pub returns-then-counters-lost-gt-LARGEST : goal.returns-then-counters-lost-gt-LARGEST

@@ -1,6 +1,5 @@
 -- `reaches` meets its contract, arm by arm.
 use Rattle.rtp.specs.Opt.{timestamp_of, at_most}
-use borrow.Author.Rules.{rules}
 use Rattle.session.proofs.poll.reaches.Goals as goal
 
 pub returns-in-None : goal.returns-in-None

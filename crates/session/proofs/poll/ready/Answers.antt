@@ -3,7 +3,6 @@ use mathlib.Core.Path.{◌≡◌, sym, ap, ◌∙◌}
 use Rattle.config.specs.declared.RtpInboundQueueMode.{RtpInboundQueueMode}
 use Rattle.config.specs.declared.RtpInboundQueueMode.TheVariants.{Passthrough, SortedQueue}
 use Rattle.model.specs.Poll.{ready_in}
-use borrow.Author.Rules.{rules}
 use Rattle.session.proofs.poll.ready.Goals as goal
 
 pub returns-in-Passthrough : goal.returns-in-Passthrough

@@ -5,7 +5,6 @@ use Rattle.config.proofs.Facts.{usable}
 use Rattle.model.specs.declared.LastReceived.TheVariants.{None, Some}
 use Rattle.model.specs.Poll.{ready_in}
 use Rattle.session.proofs.Bounds.{last_in}
-use borrow.Author.Rules.{rules}
 use Rattle.session.proofs.poll.sorted_ready.Goals as goal
 
 pub max_timestamp-limit-requires : goal.max_timestamp-limit-requires

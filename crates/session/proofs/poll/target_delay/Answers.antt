@@ -9,7 +9,6 @@ use Rattle.config.specs.Delay.{target_delay}
 use Rattle.config.proofs.Bounds.{delay-le}
 use Rattle.model.specs.Poll.{estimate_of, delay_of}
 use Rattle.session.proofs.Bounds.{estimate_in_lem}
-use borrow.Author.Rules.{rules}
 use Rattle.session.proofs.poll.target_delay.Goals as goal
 
 pub target_delay-requires : goal.target_delay-requires

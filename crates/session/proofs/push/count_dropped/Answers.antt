@@ -1,6 +1,5 @@
 -- `count_dropped`: the definition's record.
 use Rattle.model.specs.Push.{count_dropped}
-use borrow.Author.Rules.{rules}
 use Rattle.session.proofs.push.count_dropped.Goals as goal
 
 pub returns : goal.returns

@@ -1,6 +1,5 @@
 -- `count_received`: the definition's record.
 use Rattle.model.specs.Push.{count_received}
-use borrow.Author.Rules.{rules}
 use Rattle.session.proofs.push.count_received.Goals as goal
 
 pub returns : goal.returns

@@ -1,7 +1,6 @@
 -- `counts_refusal` meets its contract: the values in their order.
 use Rattle.session.proofs.Counts.{count_here, count_past}
 use mathlib.Core.Path.{◌∙◌}
-use borrow.Author.Rules.{rules}
 use Rattle.session.proofs.push.counts_refusal.Goals as goal
 
 pub returns-then-timestamp-gt-LARGEST : goal.returns-then-timestamp-gt-LARGEST

@@ -1,5 +1,4 @@
 -- `dropped`: the struct anew is the definition's.
-use borrow.Author.Rules.{rules}
 use Rattle.session.proofs.push.dropped.Goals as goal
 
 pub returns : goal.returns

@@ -3,7 +3,6 @@ use mathlib.Core.Path.{◌∙◌}
 use Rattle.session.specs.Place.{place}
 use Rattle.refusals.specs.Refusals.{refuse_if}
 use Rattle.model.specs.Table.{too_many_gaps}
-use borrow.Author.Rules.{rules}
 use Rattle.session.proofs.push.gaps_refusal.Goals as goal
 
 pub returns-in-Near : goal.returns-in-Near

@@ -1,7 +1,6 @@
 -- `last_after`, arm by arm.
 use Rattle.session.specs.Place.{place}
 use Rattle.model.specs.Push.{last_after}
-use borrow.Author.Rules.{rules}
 use Rattle.session.proofs.push.last_after.Goals as goal
 
 pub returns-in-First : goal.returns-in-First

@@ -1,5 +1,4 @@
 -- `pushed_out`: what the two callees say.
-use borrow.Author.Rules.{rules}
 use Rattle.session.proofs.push.pushed_out.Goals as goal
 
 pub returns : goal.returns

@@ -1,6 +1,5 @@
 -- `queued`: the struct anew is the definition's.
 use Rattle.model.specs.Push.{heard}
-use borrow.Author.Rules.{rules}
 use Rattle.session.proofs.push.queued.Goals as goal
 
 pub returns : goal.returns

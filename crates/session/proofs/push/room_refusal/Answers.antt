@@ -1,7 +1,6 @@
 -- `room_refusal` meets its contract: the definition's two tests.
 use Rattle.session.proofs.Counts.{step_small, step_fits, step_over}
 use native.Mathlib.Omega.{arith}
-use borrow.Author.Rules.{rules}
 use Rattle.session.proofs.push.room_refusal.Goals as goal
 
 pub returns-then-s-lt2 : goal.returns-then-s-lt2

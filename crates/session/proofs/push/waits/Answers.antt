@@ -1,7 +1,6 @@
 -- `waits`, arm by arm.
 use Rattle.session.specs.Place.{place}
 use Rattle.model.specs.Rules as Rules
-use borrow.Author.Rules.{rules}
 use Rattle.session.proofs.push.waits.Goals as goal
 
 pub returns-in-Other : goal.returns-in-Other

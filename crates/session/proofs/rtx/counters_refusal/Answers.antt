@@ -5,7 +5,6 @@ use Rattle.model.specs.Table.{fate_values}
 use Rattle.session.specs.Place.{fate}
 use native.Mathlib.Omega.{arith}
 use mathlib.Core.Path.{◌∙◌}
-use borrow.Author.Rules.{rules}
 use Rattle.session.proofs.rtx.counters_refusal.Goals as goal
 
 pub returns-then-rtx-ge-LARGEST : goal.returns-then-rtx-ge-LARGEST

@@ -1,5 +1,4 @@
 -- `recovered`: the struct anew is the definition's.
-use borrow.Author.Rules.{rules}
 use Rattle.session.proofs.rtx.recovered.Goals as goal
 
 pub returns : goal.returns

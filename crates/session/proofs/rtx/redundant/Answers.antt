@@ -1,5 +1,4 @@
 -- `redundant`: the struct anew is the definition's.
-use borrow.Author.Rules.{rules}
 use Rattle.session.proofs.rtx.redundant.Goals as goal
 
 pub returns : goal.returns

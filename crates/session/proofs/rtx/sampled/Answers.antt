@@ -2,7 +2,6 @@
 use Rattle.rtx_state.specs.Repair.{update_rtt}
 use Rattle.model.specs.Rules.{sampled_at}
 use mathlib.Core.Path.{◌∙◌}
-use borrow.Author.Rules.{rules}
 use Rattle.session.proofs.rtx.sampled.Goals as goal
 
 pub returns-in-None : goal.returns-in-None

@@ -1,5 +1,4 @@
 -- `too_late`: the struct anew is the definition's.
-use borrow.Author.Rules.{rules}
 use Rattle.session.proofs.rtx.too_late.Goals as goal
 
 pub returns : goal.returns
