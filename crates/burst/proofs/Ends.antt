@@ -1,14 +1,14 @@
 -- 15: what is left of the ends decides, and what they say of the next datagram.
-use mathlib.Core.Path.{◌≡◌, refl, sym, ap, ◌∙◌}
+use mathlib.Core.Path.{◌≡◌, refl, sym, ◌∙◌}
 use mathlib.Core.Bool.{Bool, true, false, ◌&&◌, not}
 use mathlib.Core.List.{List, [], ◌∷◌}
-use Prim.Native.Nat.{ℕ, suc, ◌+◌, ◌≤◌, ◌<◌}
+use Prim.Native.Nat.{ℕ, ◌+◌, ◌≤◌, ◌<◌}
 use native.Mathlib.Omega.{arith}
 use native.Mathlib.Numerals.{add-one}
-use lib.Dec.{leb, eqb}
+use lib.Dec.{leb}
 use lib.ListN.{length, drop, get_or, length-drop}
 use lib.Seq.{drop-cons}
-use borrow.Author.Tests.{lt-leb, le-leb, leb-true, ne_eqb}
+use borrow.Author.Tests.{lt-leb, le-leb, leb-true}
 use Rattle.words.proofs.Ordered.{and_left, and_right}
 use Rattle.refusals.specs.Refusals.{OUTPUT, refuse_if}
 use Rattle.burst.specs.Burst.{ends_fit, burst_refusal}

@@ -5,7 +5,6 @@ use mathlib.Core.List.{List, [], ◌∷◌}
 use Prim.Native.Nat.{ℕ, zero, suc, ◌+◌, ◌≤◌, ◌<◌}
 use native.Mathlib.Omega.{arith}
 use native.Mathlib.Numerals.{add-one}
-use lib.Dec.{eqb}
 use lib.ListN.{length, take, drop, get_or, set, length-set}
 use lib.Seq.{drop-cons, take_all}
 use borrow.Author.Tests.{eq-eqb, ne_eqb}
@@ -17,7 +16,7 @@ use Rattle.model.specs.Calls.{Answer, media}
 use Rattle.model.specs.Did.{Done, did}
 use Rattle.model.specs.Contract.{Does}
 use Rattle.burst.specs.declared.Standing.{Standing}
-use Rattle.burst.specs.Burst.{parts, datagrams, pushed, answer_number, answer_numbers, ends_fit, burst_refusal, BurstDone, did_burst}
+use Rattle.burst.specs.Burst.{parts, datagrams, pushed, answer_number, answer_numbers, ends_fit, burst_refusal, did_burst}
 use Rattle.burst.specs.Standing.{Stands}
 use Rattle.burst.proofs.Ends.{end_in}
 

@@ -1,14 +1,13 @@
 -- A run with bursts among its calls is a run of single calls, so that the theorem over runs holds of it.
 use mathlib.Core.Path.{◌≡◌, refl, sym, ap, subst, ◌∙◌}
-use mathlib.Core.Bool.{Bool, true, false, cond, ◌||◌}
+use mathlib.Core.Bool.{Bool, true, false, cond}
 use mathlib.Core.List.{List, [], ◌∷◌, ◌++◌, map, append-nil, append_assoc}
-use Prim.Native.Nat.{ℕ, ◌≤◌, ◌<◌}
+use Prim.Native.Nat.{ℕ}
 use native.Mathlib.Omega.{arith}
 use lib.Dec.{eqb}
 use lib.ListN.{length, take}
 use lib.Seq.{take-length}
-use borrow.Author.Tests.{eqb-true, eqb-false, ne_eqb}
-use Rattle.words.specs.Words.{over}
+use borrow.Author.Tests.{eqb-false, ne_eqb}
 use Rattle.words.proofs.Over.{take-over}
 use Rattle.model.specs.declared.Config.{Config}
 use Rattle.model.specs.Rules.{waits}

@@ -2,12 +2,12 @@
 -- number is that of a byte.
 use mathlib.Core.Path.{◌≡◌, refl, sym, ap, subst, ◌∙◌}
 use mathlib.Core.Logic.{◌⊎◌, inl, inr, ⊎_elim}
-use mathlib.Core.Bool.{Bool, true, false, cond, not}
-use mathlib.Core.List.{List, []}
+use mathlib.Core.Bool.{Bool, true, false, cond}
+use mathlib.Core.List.{List}
 use Prim.Native.Nat.{ℕ, ◌<◌}
 use native.Mathlib.Omega.{arith}
 use lib.Dec.{eqb}
-use borrow.Author.Tests.{eqb-true, eqb-false}
+use borrow.Author.Tests.{eqb-true}
 use Rattle.refusals.specs.Refusals.{TRUNCATED, VERSION, PADDING, payload_too_large, payload_type, SSRC, CLOCK, gaps_full, COUNT, SESSION, refuse_if, or_else}
 use Rattle.rtp_packet.specs.Datagram.{datagram_refusal}
 use Rattle.model.specs.Rules.{waits}
@@ -22,11 +22,9 @@ use Rattle.model.proofs.SoundCalls.{payloads-fit, left-sound, did-taken, stays-s
 use Rattle.storage.specs.Settled as storage
 use Rattle.storage.proofs.Settled.{passed_16}
 use Rattle.push.specs.declared.MediaAnswer.{MediaAnswer}
-use Rattle.push.specs.declared.MediaAnswer.TheVariants as MediaAnswer
 use Rattle.push.specs.Answers.{media_answer}
 use Rattle.burst.specs.Burst.{answer_number}
 use Rattle.burst.specs.declared.Standing.{Standing}
-use Rattle.burst.specs.declared.Standing.TheVariants.{Damaged, Sound, Settled}
 use Rattle.burst.specs.Standing.{Stands, after_sound}
 
 -- ---- what a call leaves

@@ -1,12 +1,11 @@
 -- How a session stands between two datagrams of a burst: check 16 was made once, and zeros stand in the unused places from the first
 -- datagram on that is accepted.
-use Rattle.std.specs.Prelude.{◌≡◌, true, ℕ}
+use Rattle.std.specs.Prelude.{◌≡◌, true}
 use Rattle.refusals.specs.Refusals.{SESSION}
 use Rattle.model.specs.Storage.{Stored}
 use Rattle.model.specs.Table.{session_sound, session_refusal}
 use Rattle.storage.specs.Settled as storage
 use Rattle.push.specs.declared.MediaAnswer.{MediaAnswer}
-use Rattle.push.specs.declared.MediaAnswer.TheVariants as MediaAnswer
 use Rattle.burst.specs.declared.Standing.{Standing}
 use Rattle.burst.specs.declared.Standing.TheVariants.{Damaged, Sound, Settled}
 

@@ -6,7 +6,7 @@ use Prim.Native.Nat.{ℕ}
 use native.Mathlib.Omega.{arith}
 use lib.Dec.{eqb}
 use lib.ListN.{length, take}
-use borrow.Author.Tests.{eqb-true, eqb-false, ne_eqb}
+use borrow.Author.Tests.{ne_eqb}
 use Rattle.model.specs.declared.Session.{Session}
 use Rattle.model.specs.Lists.{some?}
 use Rattle.model.specs.Rules.{waits}
@@ -15,8 +15,7 @@ use Rattle.model.specs.Storage.{Storage, Stored, parse}
 use Rattle.model.specs.Calls.{Call, Answer, media, queued, dropped, placed_answer, answered, output_of, output_after}
 use Rattle.model.specs.Table.{refusal}
 use Rattle.model.specs.Did.{Done, did, accepted, turned_back}
-use Rattle.book.specs.Book as B
-use Rattle.book.specs.Book.{Heard, Book, enter}
+use Rattle.book.specs.Book.{enter}
 use Rattle.book.specs.Claim.{Run}
 use Rattle.burst.specs.Burst.{datagrams, pushed, answer_number, is_accepted, answer_numbers, burst_refusal, BurstDone, did_burst}
 use Rattle.burst.specs.Runs.{heard, enter_each}
@@ -26,7 +25,7 @@ use Rattle.ffi_words.specs.declared.ConfigWords.{ConfigWords}
 use Rattle.ffi_words.specs.declared.SessionWords.{SessionWords}
 use Rattle.ffi_words.specs.declared.answers.PushedBurst.{PushedBurst}
 use Rattle.ffi_words.specs.declared.answers.Pushed.{Pushed}
-use Rattle.ffi_words.specs.Words.{config_of, readable, session_of, words_of}
+use Rattle.ffi_words.specs.Words.{config_of, words_of}
 use Rattle.ffi_words.specs.Told as Told
 use Rattle.ffi_words.specs.Told.{refusal_in, opt_words, value_of, session_after, burst_told}
 use Rattle.ffi.specs.Exported.{stands_for, Given, told, called}
@@ -34,7 +33,7 @@ use Rattle.ffi.specs.Follows.{heard_in, ExportedCall, push}
 use Rattle.ffi.specs.Runs.{next_run, MadeInWords, further}
 use Rattle.ffi.specs.Burst.{session_in, told_burst, called_burst, BurstFollows}
 use Rattle.ffi.proofs.Follows.{follows}
-use Rattle.ffi.proofs.Runs.{Stands, stands}
+use Rattle.ffi.proofs.Runs.{stands}
 
 -- ---- what the exported call gives
 

@@ -13,7 +13,6 @@ use Rattle.packet_loss.specs.declared.PacketLoss.{PacketLoss}
 use Rattle.packet_loss.specs.Loss.{record_received, record_lost}
 use Rattle.model.specs.declared.Config.{Config}
 use Rattle.model.specs.declared.LastReceived.{LastReceived}
-use Rattle.model.specs.declared.LastReceived.TheVariants as LastReceived
 use Rattle.model.specs.declared.Queue.{Queue}
 use Rattle.model.specs.Records.{Entry, State, new_queue, new_state}
 use Rattle.model.specs.Rules.{Place, waits, overfull}

@@ -12,7 +12,6 @@ use lib.Ieee.Fits.{and_l, and_r}
 use borrow.Author.Tests.{eqb-true}
 use Rattle.refusals.specs.Refusals.{SETTINGS}
 use Rattle.stats.specs.declared.OptRtxStats.{OptRtxStats}
-use Rattle.stats.specs.declared.OptRtxStats.TheVariants as OptRtxStats
 use Rattle.model.specs.declared.Queue.{Queue}
 use Rattle.model.specs.Records.{Entry, State, new_state}
 use Rattle.model.specs.Rules.{waits}

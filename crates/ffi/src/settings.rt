@@ -12,10 +12,7 @@ pub fn bizhgemu_read_settings(line: &[u8]) -> SettingsRead
 }
 
 // Writes the line of these settings, 145 bytes, to the front of `out`: 1, then 15, where none is written.
-pub fn bizhgemu_write_settings(
-    settings: SettingsWords,
-    out: &mut [u8],
-) -> SettingsWritten
+pub fn bizhgemu_write_settings(settings: SettingsWords, out: &mut [u8]) -> SettingsWritten
     ensures { outcome result out.new ≡ write_words settings out.old }
 {
     settings_words::write(settings, out)

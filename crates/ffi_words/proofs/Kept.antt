@@ -5,15 +5,12 @@ use lib.Dec.{eqb, leb}
 use lib.Ieee.{binary32, binary64}
 use lib.Ieee.Bits.{of_bits-to_bits, of_bits-fits}
 use Rattle.rtp.specs.declared.opt.OptNumber.{OptNumber}
-use Rattle.rtp.specs.declared.opt.OptNumber.TheVariants as OptNumber
 use Rattle.rtx_state.specs.declared.OptRtt.{OptRtt}
-use Rattle.rtx_state.specs.declared.OptRtt.TheVariants as OptRtt
 use Rattle.config.specs.declared.RtpInboundStreamSortedQueueMode.TheVariants.{Fixed, Dynamic}
 use Rattle.config.specs.declared.RtpInboundQueueMode.{RtpInboundQueueMode}
 use Rattle.config.specs.declared.RtpInboundQueueMode.TheVariants.{Passthrough, SortedQueue}
 use Rattle.config.specs.Mode.{mode_of, mode_number, dynamic_of}
 use Rattle.model.specs.declared.LastReceived.{LastReceived}
-use Rattle.model.specs.declared.LastReceived.TheVariants as LastReceived
 use Rattle.model.specs.declared.Config.{Config}
 use Rattle.ffi_words.specs.Words.{config_readable, readable, config_of, last_of, returned_of, rtt_of, queue_of, session_of, flag, config_words, last_words, returned_words, rtt_words, words_of, Kept}
 

@@ -3,10 +3,8 @@ use Rattle.std.specs.Prelude.{Bool, cond, List, [], ◌∷◌, ℕ, length}
 use Rattle.rtp.specs.declared.opt.Opt.{Opt}
 use Rattle.rtp.specs.declared.opt.Opt.TheVariants.{None, Some}
 use Rattle.nack_pairs.specs.declared.read.ReadAnswer.{ReadAnswer}
-use Rattle.nack_pairs.specs.declared.read.ReadAnswer.TheVariants as ReadAnswer
 use Rattle.packet_loss.specs.Loss.{zero32}
 use Rattle.stats.specs.declared.OptRtxStats.{OptRtxStats}
-use Rattle.stats.specs.declared.OptRtxStats.TheVariants as OptRtxStats
 use Rattle.model.specs.declared.Session.{Session}
 use Rattle.model.specs.Push.{Fate, recovered, redundant, too_late}
 use Rattle.model.specs.Calls as Calls

@@ -4,13 +4,10 @@ use Rattle.std.specs.Prelude.{◌≡◌, Bool, true, false, ◌&&◌, cond, ℕ,
 use Rattle.std.specs.Float.{binary32, binary64}
 use Rattle.std.specs.Float.Ieee.{of_bits, to_bits, fits}
 use Rattle.rtp.specs.declared.opt.OptNumber.{OptNumber}
-use Rattle.rtp.specs.declared.opt.OptNumber.TheVariants as OptNumber
 use Rattle.rtx_state.specs.declared.OptRtt.{OptRtt}
-use Rattle.rtx_state.specs.declared.OptRtt.TheVariants as OptRtt
 use Rattle.config.specs.Mode.{mode_of, mode_number, dynamic_of}
 use Rattle.model.specs.declared.Config.{Config}
 use Rattle.model.specs.declared.LastReceived.{LastReceived}
-use Rattle.model.specs.declared.LastReceived.TheVariants as LastReceived
 use Rattle.model.specs.declared.Queue.{Queue}
 use Rattle.model.specs.declared.Session.{Session}
 use Rattle.ffi_words.specs.declared.ConfigWords.{ConfigWords}

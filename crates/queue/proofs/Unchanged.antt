@@ -8,7 +8,6 @@ use lib.Dec.{T}
 use lib.ListN.{length, take, drop}
 use Rattle.words.specs.Blocks.{blocks}
 use Rattle.rtp.specs.declared.opt.Opt.{Opt}
-use Rattle.rtp.specs.declared.opt.Opt.TheVariants as Opt
 use Rattle.durations.specs.Seconds.{largest}
 use Rattle.refusals.specs.Refusals.{or_else}
 use Rattle.refusals.proofs.Laws.{or_else-first, or_else-none}
@@ -20,7 +19,6 @@ use Rattle.rtx_state.specs.RoundTrip.{opt_rtt_in_range}
 use Rattle.packet_loss.specs.Loss.{loss_in_range}
 use Rattle.config.specs.Valid.{settings_valid}
 use Rattle.model.specs.declared.LastReceived.{LastReceived}
-use Rattle.model.specs.declared.LastReceived.TheVariants as LastReceived
 use Rattle.model.specs.Records.{Entry}
 use Rattle.model.specs.Lists.{every?}
 use Rattle.model.specs.Poll.{timings_of, timeout_in, receive_timeout_of, nack_timeout_of}

@@ -4,13 +4,9 @@ use Rattle.model.specs.Calls as Calls
 use Rattle.model.specs.Calls.{Answer}
 use Rattle.model.specs.Did as Did
 use Rattle.queue.specs.declared.Opening.{Opening}
-use Rattle.queue.specs.declared.Opening.TheVariants as Opening
 use Rattle.queue.specs.declared.TimeoutAnswer.{TimeoutAnswer}
-use Rattle.queue.specs.declared.TimeoutAnswer.TheVariants as TimeoutAnswer
 use Rattle.queue.specs.declared.StatsAnswer.{StatsAnswer}
-use Rattle.queue.specs.declared.StatsAnswer.TheVariants as StatsAnswer
 use Rattle.queue.specs.declared.HighestAnswer.{HighestAnswer}
-use Rattle.queue.specs.declared.HighestAnswer.TheVariants as HighestAnswer
 
 unfoldable pub opening_answer : Opening → Did.Opening
 opening_answer (Opening.Session s) = Did.session s

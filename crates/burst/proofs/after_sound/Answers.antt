@@ -2,7 +2,6 @@
 use mathlib.Core.Path.{◌≡◌}
 use Rattle.push.specs.declared.MediaAnswer.TheVariants.{Queued, Dropped, Refused}
 use Rattle.burst.specs.Standing.{after_sound}
-use borrow.Author.Rules.{rules}
 use Rattle.burst.proofs.after_sound.Goals as goal
 
 pub returns-in-Queued : goal.returns-in-Queued

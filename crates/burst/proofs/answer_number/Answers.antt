@@ -2,7 +2,6 @@
 use mathlib.Core.Path.{◌≡◌}
 use Prim.Native.Nat.{◌<◌}
 use native.Mathlib.Omega.{arith}
-use borrow.Author.Rules.{rules}
 use Rattle.push.specs.declared.MediaAnswer.TheVariants.{Queued, Dropped, Refused}
 use Rattle.push.specs.Answers.{media_answer}
 use Rattle.burst.specs.Burst.{answer_number}

@@ -1,11 +1,8 @@
 -- `any_accepted`: the answers from place i on decide.
-use mathlib.Core.Path.{◌≡◌, refl, sym, ◌∙◌}
-use Prim.Native.Nat.{◌-◌, ◌≤◌}
+use mathlib.Core.Path.{refl, sym, ◌∙◌}
 use native.Mathlib.Omega.{arith}
-use lib.ListN.{length, take, drop, length-take, length-drop}
-use borrow.Author.Rules.{rules}
+use lib.ListN.{length-take, length-drop}
 use borrow.Author.Tests.{eq-eqb, ne_eqb}
-use Rattle.model.specs.Lists.{some?}
 use Rattle.burst.specs.Burst.{is_accepted}
 use Rattle.burst.proofs.Accepted.{accepted_next, accepted-none}
 use Rattle.burst.proofs.any_accepted.Goals as goal

@@ -1,6 +1,5 @@
 -- `burst_refusal` meets its contract: the ends, then the places.
 use mathlib.Core.Path.{sym, ◌∙◌}
-use borrow.Author.Rules.{rules}
 use borrow.Author.Tests.{not-true, not-false}
 use Rattle.burst.proofs.Ends.{no_ends, no_places, none-refused}
 use mathlib.Core.Path.{ap}

@@ -1,10 +1,6 @@
 -- `ends_fit`: the ends from place i on decide.
-use mathlib.Core.Path.{◌≡◌, refl, sym, ◌∙◌}
-use Prim.Native.Nat.{◌-◌, ◌≤◌}
+use mathlib.Core.Path.{refl, sym, ◌∙◌}
 use native.Mathlib.Omega.{arith}
-use lib.ListN.{length, drop}
-use borrow.Author.Rules.{rules}
-use Rattle.burst.specs.Burst.{ends_fit}
 use Rattle.burst.proofs.Ends.{falls, passes, goes_on, ends_over}
 use Rattle.burst.proofs.ends_fit.Goals as goal
 

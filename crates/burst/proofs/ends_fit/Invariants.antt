@@ -1,11 +1,8 @@
 -- `ends_fit`: the ends from place i on decide.
-use mathlib.Core.Path.{◌≡◌, refl, sym, ◌∙◌}
+use mathlib.Core.Path.{◌≡◌}
 use Prim.Native.Nat.{◌-◌, ◌≤◌}
-use native.Mathlib.Omega.{arith}
 use lib.ListN.{length, drop}
-use borrow.Author.Rules.{rules}
 use Rattle.burst.specs.Burst.{ends_fit}
-use Rattle.burst.proofs.Ends.{falls, passes, goes_on, ends_over}
 use Rattle.burst.proofs.ends_fit.Given as goal
 
 abbrev pub invariant-loop-i : goal.invariant-loop-i

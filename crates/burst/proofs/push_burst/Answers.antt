@@ -1,6 +1,5 @@
 -- `push_burst` meets its contract: refused under 15, or the datagrams one after the other.
 use mathlib.Core.Path.{sym, ◌∙◌}
-use borrow.Author.Rules.{rules}
 use lib.ListN.{length}
 use Rattle.model.specs.Contract.{stored}
 use Rattle.model.specs.Storage.{Stored}

@@ -1,16 +1,8 @@
 -- `push_each`: before each turn what stands there is the fold of the single calls over the datagrams so far (`Along`).
-use mathlib.Core.Path.{refl, ap, subst, ◌∙◌}
-use Prim.Native.Nat.{◌+◌, ◌-◌, ◌^◌, ◌<◌}
-use native.Mathlib.Omega.{arith}
+use Prim.Native.Nat.{◌-◌}
 use lib.ListN.{length}
-use borrow.Author.Rules.{rules}
 use Rattle.model.specs.Contract.{stored}
-use Rattle.model.specs.Storage.{Stored}
-use Rattle.model.specs.Calls.{Answer}
-use Rattle.model.specs.Did.{Done}
-use Rattle.burst.specs.Burst.{answer_number}
-use Rattle.burst.proofs.Steps.{number_small}
-use Rattle.burst.proofs.Fold.{Along, Sizes, along_none, part_in, along_more, along_all}
+use Rattle.burst.proofs.Fold.{Along, Sizes}
 use Rattle.burst.proofs.push_each.Given as goal
 
 abbrev pub invariant-loop-i : goal.invariant-loop-i

@@ -2,7 +2,6 @@
 use mathlib.Core.Path.{◌≡◌, sym, subst}
 use mathlib.Core.List.{[]}
 use native.Mathlib.Omega.{arith}
-use borrow.Author.Rules.{rules}
 use Rattle.refusals.specs.Refusals.{SESSION}
 use Rattle.model.specs.Contract.{stored}
 use Rattle.model.specs.Storage.{Stored}

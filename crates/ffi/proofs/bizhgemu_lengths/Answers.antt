@@ -8,7 +8,6 @@ use lib.Ieee.Fits.{and_r}
 use borrow.Author.Tests.{not-true, not-false}
 use Rattle.config.specs.Valid.{within, depth_valid, gaps_valid}
 use Rattle.ffi.specs.Exported.{lengths}
-use borrow.Author.Rules.{rules}
 use mathlib.Core.Path.{ap}
 use mathlib.Core.Bool.{not}
 use Rattle.ffi.proofs.bizhgemu_lengths.Goals as goal

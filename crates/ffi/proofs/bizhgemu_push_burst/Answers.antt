@@ -1,5 +1,4 @@
 -- `bizhgemu_push_burst`: the burst on the session that the words stand for.
-use borrow.Author.Rules.{rules}
 use Rattle.model.specs.Contract.{storage}
 use Rattle.ffi.proofs.Burst.{burst-given}
 use Rattle.ffi.proofs.bizhgemu_push_burst.Goals as goal

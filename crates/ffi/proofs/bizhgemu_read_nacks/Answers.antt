@@ -1,7 +1,5 @@
 -- `bizhgemu_read_nacks`: the reader's answer, in words.
-use mathlib.Core.Path.{◌≡◌}
 use Rattle.ffi.specs.Exported.{read_nacks}
-use borrow.Author.Rules.{rules}
 use Rattle.ffi.proofs.bizhgemu_read_nacks.Goals as goal
 
 pub returns : goal.returns

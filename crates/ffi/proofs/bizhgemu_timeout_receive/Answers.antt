@@ -7,7 +7,6 @@ use Rattle.model.specs.Contract.{storage}
 use Rattle.ffi_words.specs.Told as Told
 use Rattle.ffi.specs.Exported.{alone}
 use Rattle.ffi.proofs.Given.{not-read, was_read}
-use borrow.Author.Rules.{rules}
 use mathlib.Core.Path.{ap}
 use mathlib.Core.Bool.{not}
 use Rattle.ffi.proofs.bizhgemu_timeout_receive.Goals as goal

@@ -1,6 +1,5 @@
 -- `session_in` meets its contract: what the words stand for, or a session of zeros.
 use mathlib.Core.Path.{sym, ap, ◌∙◌}
-use borrow.Author.Rules.{rules}
 use Rattle.ffi_words.specs.Words.{session_of}
 use Rattle.ffi.specs.Burst.{session_in}
 use Rattle.ffi.proofs.session_in.Goals as goal

@@ -1,6 +1,5 @@
 -- `config_of` meets its contract: field by field.
 use Rattle.ffi_words.specs.Words.{config_of}
-use borrow.Author.Rules.{rules}
 use Rattle.ffi_words.proofs.config_of.Goals as goal
 
 pub returns : goal.returns

@@ -1,6 +1,5 @@
 -- `queue_of` meets its contract: field by field.
 use Rattle.ffi_words.specs.Words.{queue_of}
-use borrow.Author.Rules.{rules}
 use Rattle.ffi_words.proofs.queue_of.Goals as goal
 
 pub returns : goal.returns

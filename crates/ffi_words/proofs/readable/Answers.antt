@@ -1,6 +1,5 @@
 -- `readable` meets its contract: the same tests.
 use Rattle.ffi_words.specs.Words.{readable}
-use borrow.Author.Rules.{rules}
 use Rattle.ffi_words.proofs.readable.Goals as goal
 
 pub returns : goal.returns

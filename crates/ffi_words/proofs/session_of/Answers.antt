@@ -1,6 +1,5 @@
 -- `session_of` meets its contract: field by field.
 use Rattle.ffi_words.specs.Words.{session_of}
-use borrow.Author.Rules.{rules}
 use Rattle.ffi_words.proofs.session_of.Goals as goal
 
 pub returns : goal.returns

@@ -1,7 +1,6 @@
 -- `burst_told` meets its contract: the words as they came, or those of the session that is left.
 use mathlib.Core.Path.{◌≡◌}
 use mathlib.Core.Bool.{true, false}
-use borrow.Author.Rules.{rules}
 use borrow.Author.Tests.{not-true, not-false}
 use Rattle.ffi_words.specs.Told.{burst_told}
 use mathlib.Core.Path.{ap}

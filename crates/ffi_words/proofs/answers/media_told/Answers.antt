@@ -3,7 +3,6 @@ use mathlib.Core.Path.{◌≡◌}
 use Rattle.push.specs.declared.MediaAnswer.TheVariants.{Queued, Dropped, Refused}
 use Rattle.ffi_words.specs.Told.{pushed, session_after, refusal_in, number_in, opt_words}
 use Rattle.push.specs.Answers.{media_answer}
-use borrow.Author.Rules.{rules}
 use Rattle.ffi_words.proofs.answers.media_told.Goals as goal
 
 pub returns-in-Queued : goal.returns-in-Queued

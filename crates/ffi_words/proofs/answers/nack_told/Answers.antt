@@ -3,7 +3,6 @@ use mathlib.Core.Path.{◌≡◌}
 use Rattle.poll.specs.declared.nack.NackAnswer.TheVariants.{Nothing, Numbers, Refused}
 use Rattle.ffi_words.specs.Told.{polled_nack, session_after, refusal_in, number_in, opt_words}
 use Rattle.poll.specs.Answers.{nack_answer}
-use borrow.Author.Rules.{rules}
 use Rattle.ffi_words.proofs.answers.nack_told.Goals as goal
 
 pub returns-in-Nothing : goal.returns-in-Nothing

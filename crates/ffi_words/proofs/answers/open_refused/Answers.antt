@@ -1,6 +1,5 @@
 -- `open_refused` meets its contract: zeros beside the number.
 use Rattle.ffi_words.specs.Told.{open_told}
-use borrow.Author.Rules.{rules}
 use Rattle.ffi_words.proofs.answers.open_refused.Goals as goal
 
 pub returns : goal.returns

@@ -3,7 +3,6 @@ use mathlib.Core.Path.{◌≡◌}
 use Rattle.queue.specs.declared.Opening.TheVariants.{Session, Refused}
 use Rattle.ffi_words.specs.Told.{open_told}
 use Rattle.queue.specs.Answers.{opening_answer}
-use borrow.Author.Rules.{rules}
 use Rattle.ffi_words.proofs.answers.open_told.Goals as goal
 
 pub returns-in-Session : goal.returns-in-Session

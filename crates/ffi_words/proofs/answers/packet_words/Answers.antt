@@ -1,7 +1,6 @@
 -- `packet_words` meets its contract: field by field.
 use Rattle.ffi_words.specs.Told.{packet_words}
 use Rattle.poll.specs.Answers.{packet_of}
-use borrow.Author.Rules.{rules}
 use Rattle.ffi_words.proofs.answers.packet_words.Goals as goal
 
 pub returns : goal.returns

@@ -3,7 +3,6 @@ use mathlib.Core.Path.{◌≡◌, ◌∙◌}
 use Rattle.poll.specs.declared.PollAnswer.TheVariants.{Nothing, Packet, Refused}
 use Rattle.ffi_words.specs.Told.{polled, session_after, packet_in, refusal_in, number_in, opt_words}
 use Rattle.poll.specs.Answers.{poll_answer}
-use borrow.Author.Rules.{rules}
 use Rattle.ffi_words.proofs.answers.poll_told.Goals as goal
 
 pub returns-in-Nothing : goal.returns-in-Nothing

@@ -3,7 +3,6 @@ use mathlib.Core.Path.{◌≡◌}
 use Rattle.push.specs.declared.rtx.RepairAnswer.TheVariants.{Recovered, Redundant, TooLate, Refused}
 use Rattle.ffi_words.specs.Told.{pushed, session_after, fate_number, refusal_in, number_in, opt_words}
 use Rattle.push.specs.Answers.{repair_answer}
-use borrow.Author.Rules.{rules}
 use Rattle.ffi_words.proofs.answers.repair_told.Goals as goal
 
 pub returns-in-Recovered : goal.returns-in-Recovered

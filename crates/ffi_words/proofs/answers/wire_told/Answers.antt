@@ -3,7 +3,6 @@ use mathlib.Core.Path.{◌≡◌}
 use Rattle.poll.specs.declared.wire.WireAnswer.TheVariants.{Bytes, Refused}
 use Rattle.ffi_words.specs.Told.{polled_wire, session_after, refusal_in, number_in, opt_words}
 use Rattle.poll.specs.Answers.{wire_answer}
-use borrow.Author.Rules.{rules}
 use Rattle.ffi_words.proofs.answers.wire_told.Goals as goal
 
 pub returns-in-Bytes : goal.returns-in-Bytes

@@ -3,7 +3,6 @@ use mathlib.Core.Path.{◌≡◌}
 use Rattle.queue.specs.declared.HighestAnswer.TheVariants.{None, Number, Refused}
 use Rattle.ffi_words.specs.Told.{highest_told, refusal_in, number_in, opt_words}
 use Rattle.queue.specs.Answers.{highest_answer}
-use borrow.Author.Rules.{rules}
 use Rattle.ffi_words.proofs.figures.highest_told.Goals as goal
 
 pub returns-in-None : goal.returns-in-None

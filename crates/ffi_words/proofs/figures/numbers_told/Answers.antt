@@ -1,6 +1,5 @@
 -- `numbers_told` meets its contract: each arm is a line of the definition.
 use Rattle.ffi_words.specs.Told.{numbers_told}
-use borrow.Author.Rules.{rules}
 use Rattle.ffi_words.proofs.figures.numbers_told.Goals as goal
 
 pub returns-in-Numbers : goal.returns-in-Numbers

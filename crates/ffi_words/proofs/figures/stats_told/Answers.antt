@@ -3,7 +3,6 @@ use mathlib.Core.Path.{◌≡◌}
 use Rattle.queue.specs.declared.StatsAnswer.TheVariants.{Stats, Refused}
 use Rattle.ffi_words.specs.Told.{stats_told, stats_in, refusal_in, opt_words}
 use Rattle.queue.specs.Answers.{stats_answer}
-use borrow.Author.Rules.{rules}
 use Rattle.ffi_words.proofs.figures.stats_told.Goals as goal
 
 pub returns-in-Stats : goal.returns-in-Stats

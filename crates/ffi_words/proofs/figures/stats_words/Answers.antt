@@ -2,7 +2,6 @@
 use mathlib.Core.Path.{◌≡◌}
 use Rattle.stats.specs.declared.OptRtxStats.TheVariants.{None, Some}
 use Rattle.ffi_words.specs.Told.{refusal_in, stats_in, opt_words, stats_words, stats_told}
-use borrow.Author.Rules.{rules}
 use Rattle.ffi_words.proofs.figures.stats_words.Goals as goal
 
 pub returns-in-None : goal.returns-in-None

@@ -3,7 +3,6 @@ use mathlib.Core.Path.{◌≡◌}
 use Rattle.queue.specs.declared.TimeoutAnswer.TheVariants.{Timeout, Refused}
 use Rattle.ffi_words.specs.Told.{timeout_told, refusal_in, number_in, opt_words}
 use Rattle.queue.specs.Answers.{timeout_answer}
-use borrow.Author.Rules.{rules}
 use Rattle.ffi_words.proofs.figures.timeout_told.Goals as goal
 
 pub returns-in-Timeout : goal.returns-in-Timeout

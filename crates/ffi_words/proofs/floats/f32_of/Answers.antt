@@ -1,7 +1,6 @@
 -- `f32_of` meets its contract: bits above an infinity's are a NaN's, no others are.
 use mathlib.Core.Path.{sym}
 use lib.Ieee.{binary32, div, of_bits}
-use borrow.Author.Rules.{rules}
 use Rattle.ffi_words.proofs.Nan.{above-nan, not-above}
 use Rattle.ffi_words.proofs.floats.f32_of.Goals as goal
 

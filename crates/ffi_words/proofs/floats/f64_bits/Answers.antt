@@ -1,6 +1,5 @@
 -- `f64_bits` meets its contract: what equals itself is no NaN, all else is one.
 use lib.Ieee.{to_bits}
-use borrow.Author.Rules.{rules}
 use Rattle.float_laws.proofs.NoNan.{real}
 use Rattle.ffi_words.proofs.Nan.{unequal_nan}
 use Rattle.ffi_words.proofs.floats.f64_bits.Goals as goal

@@ -1,6 +1,5 @@
 -- `config_words` meets its contract: field by field.
 use Rattle.ffi_words.specs.Words.{config_words}
-use borrow.Author.Rules.{rules}
 use Rattle.ffi_words.proofs.writing.config_words.Goals as goal
 
 pub returns : goal.returns

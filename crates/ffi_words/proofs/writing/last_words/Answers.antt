@@ -2,7 +2,6 @@
 use mathlib.Core.Path.{◌≡◌}
 use Rattle.model.specs.declared.LastReceived.TheVariants.{None}
 use Rattle.ffi_words.specs.Words.{last_words}
-use borrow.Author.Rules.{rules}
 use Rattle.ffi_words.proofs.writing.last_words.Goals as goal
 
 pub returns-in-None : goal.returns-in-None

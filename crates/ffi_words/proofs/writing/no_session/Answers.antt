@@ -1,6 +1,5 @@
 -- `no_session` meets its contract: zeros.
 use Rattle.ffi_words.specs.Words.{no_session}
-use borrow.Author.Rules.{rules}
 use Rattle.ffi_words.proofs.writing.no_session.Goals as goal
 
 pub returns : goal.returns

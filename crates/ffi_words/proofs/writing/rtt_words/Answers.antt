@@ -1,6 +1,5 @@
 -- `rtt_words` meets its contract: each arm is a line of the definition.
 use Rattle.ffi_words.specs.Words.{rtt_words}
-use borrow.Author.Rules.{rules}
 use Rattle.ffi_words.proofs.writing.rtt_words.Goals as goal
 
 pub returns-in-None : goal.returns-in-None

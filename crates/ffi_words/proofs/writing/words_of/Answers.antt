@@ -1,6 +1,5 @@
 -- `words_of` meets its contract: field by field.
 use Rattle.ffi_words.specs.Words.{words_of}
-use borrow.Author.Rules.{rules}
 use Rattle.ffi_words.proofs.writing.words_of.Goals as goal
 
 pub returns : goal.returns

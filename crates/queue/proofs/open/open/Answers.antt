@@ -4,7 +4,6 @@ use borrow.Author.Tests.{eq-eqb, ne_eqb}
 use Rattle.model.specs.Did.{opened}
 use Rattle.queue.specs.Answers.{opening_answer}
 use Rattle.queue.proofs.New.{zeros}
-use borrow.Author.Rules.{rules}
 use Rattle.queue.proofs.open.open.Goals as goal
 
 pub returns-then-refused-ne0 : goal.returns-then-refused-ne0

@@ -4,7 +4,6 @@ use borrow.Author.Tests.{not-true, not-false}
 use Rattle.refusals.specs.Refusals.{refuse_if, or_else}
 use Rattle.model.specs.Table.{opening_refusal}
 use Rattle.storage.proofs.Checking.{valid_usable}
-use borrow.Author.Rules.{rules}
 use mathlib.Core.Path.{ap}
 use mathlib.Core.Bool.{not}
 use Rattle.queue.proofs.open.refusal.Goals as goal

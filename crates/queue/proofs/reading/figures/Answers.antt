@@ -2,7 +2,6 @@
 use mathlib.Core.Path.{ap}
 use Rattle.stats.specs.declared.OptRtxStats.TheVariants.{Some}
 use Rattle.model.specs.Poll as Poll
-use borrow.Author.Rules.{rules}
 use Rattle.queue.proofs.reading.figures.Goals as goal
 
 pub returns-then-config : goal.returns-then-config

@@ -3,7 +3,6 @@ use mathlib.Core.Path.{◌≡◌}
 use Rattle.model.specs.declared.LastReceived.TheVariants.{None, Some}
 use Rattle.model.specs.Records.{highest_of}
 use Rattle.queue.specs.Answers.{highest_answer}
-use borrow.Author.Rules.{rules}
 use Rattle.queue.proofs.reading.highest.Goals as goal
 
 pub returns-in-None : goal.returns-in-None

@@ -8,7 +8,6 @@ use Rattle.queue.specs.Answers.{highest_answer}
 use Rattle.model.specs.Contract.{stored}
 use Rattle.storage.proofs.Settled.{refused-is, passed_16}
 use Rattle.queue.proofs.Unchanged.{alone, left_as_is}
-use borrow.Author.Rules.{rules}
 use Rattle.queue.proofs.reading.highest_sequence_number_received.Goals as goal
 
 pub returns-then-refusal-ne0 : goal.returns-then-refusal-ne0

@@ -9,7 +9,6 @@ use Rattle.config.proofs.Facts.{usable}
 use Rattle.model.specs.Records.{Entry}
 use Rattle.model.specs.Poll.{delay_of}
 use Rattle.queue.proofs.Unchanged.{empty-timeout, waiting-timeout, front_timeout}
-use borrow.Author.Rules.{rules}
 use Rattle.queue.proofs.reading.receive_timeout.Goals as goal
 
 pub returns-then-n-eq0 : goal.returns-then-n-eq0

@@ -8,7 +8,6 @@ use Rattle.queue.specs.Answers.{timeout_answer}
 use Rattle.model.specs.Contract.{stored}
 use Rattle.storage.proofs.Settled.{refused-is}
 use Rattle.queue.proofs.Unchanged.{timely_sound, receive_timed, received-timeout}
-use borrow.Author.Rules.{rules}
 use Rattle.queue.proofs.reading.timeout_receive.Goals as goal
 
 pub returns-then-refusal-ne0 : goal.returns-then-refusal-ne0

@@ -5,7 +5,6 @@ use Rattle.rtp.specs.declared.opt.Opt.TheVariants as Opt
 use Rattle.model.specs.declared.LastReceived.TheVariants.{None, Some}
 use Rattle.model.specs.Poll.{timeout_in}
 use Rattle.session.proofs.Bounds.{last_in}
-use borrow.Author.Rules.{rules}
 use Rattle.queue.proofs.reading.until_front.Goals as goal
 
 pub timeout_receive-requires : goal.timeout_receive-requires

@@ -1,8 +1,5 @@
 -- `numbers` is safe and ends: a place is filled in each turn.
-use Prim.Native.Nat.{◌≤◌, ◌-◌}
-use mathlib.Core.Path.{◌≡◌}
-use lib.ListN.{length}
-use borrow.Author.Rules.{rules}
+use Prim.Native.Nat.{◌-◌}
 use Rattle.replay.proofs.field.numbers.Given as goal
 
 abbrev pub invariant-loop-i : goal.invariant-loop-i

@@ -1,9 +1,7 @@
 -- `encode` is safe and ends: two digits are written in each turn, and there is room for twice as many as bytes.
-use Prim.Native.Nat.{◌*◌, ◌≤◌, ◌-◌}
+use Prim.Native.Nat.{◌*◌}
 use native.Mathlib.Omega.{arith}
-use mathlib.Core.Path.{◌≡◌}
-use lib.ListN.{length, length-set}
-use borrow.Author.Rules.{rules}
+use lib.ListN.{length-set}
 use Rattle.replay.proofs.put.encode.Goals as goal
 
 pub bounds-out-i-in-loop-i : goal.bounds-out-i-in-loop-i

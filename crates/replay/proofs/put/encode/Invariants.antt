@@ -1,9 +1,7 @@
 -- `encode` is safe and ends: two digits are written in each turn, and there is room for twice as many as bytes.
-use Prim.Native.Nat.{◌*◌, ◌≤◌, ◌-◌}
-use native.Mathlib.Omega.{arith}
+use Prim.Native.Nat.{◌≤◌, ◌-◌}
 use mathlib.Core.Path.{◌≡◌}
-use lib.ListN.{length, length-set}
-use borrow.Author.Rules.{rules}
+use lib.ListN.{length}
 use Rattle.replay.proofs.put.encode.Given as goal
 
 abbrev pub invariant-loop-i : goal.invariant-loop-i

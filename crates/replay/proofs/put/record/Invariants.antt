@@ -1,8 +1,7 @@
 -- `record` is safe and ends: a number is written in each turn.
-use Prim.Native.Nat.{◌≤◌, ◌-◌}
+use Prim.Native.Nat.{◌-◌}
 use mathlib.Core.Path.{◌≡◌}
 use lib.ListN.{length}
-use borrow.Author.Rules.{rules}
 use Rattle.replay.proofs.put.record.Given as goal
 
 abbrev pub invariant-loop-i : goal.invariant-loop-i
