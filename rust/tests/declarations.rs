@@ -84,12 +84,13 @@ fn the_library_has_the_same_structs() {
     assert_eq!(library, of_rust(include_str!("../src/ffi.rs")));
 }
 
-/// The functions of the boundary in a Rattle source, each from its arguments to its body, by name.
+/// The functions of the boundary in a Rattle source, each from its arguments to its body, however it is laid out, by name.
 fn functions(text: &str, before: &str) -> BTreeMap<String, String> {
     let start = format!("\n{before}fn ");
     let parts = text.split(&start).skip(1);
     let heads = parts.filter(|part| part.starts_with("bizhgemu_")).filter_map(|part| part.split_once("\n{"));
-    heads.filter_map(|(head, _)| head.split_once('(')).map(|(name, rest)| (name.into(), rest.into())).collect()
+    let plain = |rest: &str| rest.split_whitespace().collect::<Vec<_>>().join(" ").replace(", )", ")");
+    heads.filter_map(|(head, _)| head.split_once('(')).map(|(name, rest)| (name.into(), plain(rest))).collect()
 }
 
 #[test]
