@@ -58,7 +58,9 @@ pub extern "C" fn bizhgemu_push_burst(
 ) -> PushedBurst
     ensures { called_burst now buffer.now ends.now numbers.old session (lent entries payloads gaps remembered) ≡ record { value = result; storage = left entries payloads gaps remembered; output = numbers.new } }
 {
-    ffi::bizhgemu_push_burst(session, entries, payloads, gaps, remembered, now, buffer, ends, numbers)
+    ffi::bizhgemu_push_burst(
+        session, entries, payloads, gaps, remembered, now, buffer, ends, numbers,
+    )
 }
 
 #[unsafe(no_mangle)]
