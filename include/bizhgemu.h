@@ -1,7 +1,7 @@
 /* The receive queue of one RTP stream: datagrams and instants in; packets, NACK lists and timeouts out.
  *
  * Link libbizhgemu, which `make install` and a release have, or target/staticlib/libffi.a, which `tools/build archive` makes and which is
- * the same; it needs memset, memcpy and memmove alone. C99 or later, x86-64 Linux. docs/USING.md tells how to choose settings and drive the queue. No function allocates, blocks, reads a clock or
+ * the same; it needs memset, memcpy and memmove alone. C99 or later, x86-64 Linux (level x86-64-v2). docs/USING.md tells how to choose settings and drive the queue. No function allocates, blocks, reads a clock or
  * keeps state of its own: a session is a struct that goes in by value and comes back by value, its storage is four arrays
  * that the caller owns.
  *
