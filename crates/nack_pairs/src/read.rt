@@ -1,7 +1,7 @@
 // The reader of a generic NACK's entries: of every list of bytes the 16-bit numbers that it names, or a refusal.
 ghost use Rattle.std.specs.Prelude.{◌≡◌, ◌+◌, ◌*◌, ◌≤◌, ◌<◌, length, get_or};
 ghost use Rattle.words.specs.Words.{over};
-ghost use Rattle.nack_pairs.specs.Wire.{NUMBERS};
+ghost use Rattle.nack_pairs.specs.Wire as Wire;
 ghost use Rattle.nack_pairs.specs.Reader.{named16, read_answer, list_after};
 
 use super::ENTRY_BYTES;
@@ -33,7 +33,7 @@ fn sixteen(bytes: &[u8], at: usize) -> u64
 
 // Writes the numbers that one pair names to the front of `part`, and says how many they are.
 fn unmask(part: &mut [u16], first: u64, mask: u64) -> usize
-    requires in_bounds { NUMBERS ≤ length part.old }
+    requires in_bounds { Wire.NUMBERS ≤ length part.old }
     requires first_bound { first < 65536 }
     ensures value { result ≡ length (named16 first mask) }
     ensures part_after { part.new ≡ over (named16 first mask) part.old }
