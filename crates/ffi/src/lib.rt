@@ -1,5 +1,5 @@
 // The library for C and Rust: the opening, the calls, the burst, two readings, the reader of NACK entries and the version, on words that the caller
-// keeps and storage that it lends; in settings.rt the line of settings.
+// keeps and storage that it lends; in settings.rt the line of settings. Crate `ffi_c` exports each function whose name begins with bizhgemu_.
 // No function asks anything of its caller but live slices of the lengths passed, none of which overlaps another that is written.
 #![tactic(auto)]
 

@@ -123,9 +123,9 @@ module _ (q : Queue) where
   abbrev gap_tests : Gap → List Bool
   gap_tests g = not_passed (bounds_of q).passed g.number ∷ leb g.detected q.clock ∷ leb g.nacked_at q.clock ∷ []
 
-  gap_of : (g : Gap) → T (gap_sound (bounds_of q) g) → GapIn q.clock highest mode returned g
+  gap_of_lem : (g : Gap) → T (gap_sound (bounds_of q) g) → GapIn q.clock highest mode returned g
   unfolding gap_sound bounds_of not_passed passed all_of Parts
-  gap_of g t =
+  gap_of_lem g t =
       let p = parts (under highest g.number) (gap_tests g) t in
       record { under = under_of _ _ p.0; ahead = ahead_of _ _ _ p.1.0; detected-by = leb→le _ _ p.1.1.0; nacked-by = leb→le _ _ p.1.1.1 }
 
@@ -143,9 +143,9 @@ module _ (q : Queue) where
       ∷ leb (length e.payload) largest_payload
       ∷ []
 
-  entry_of : (gaps : List Gap) (e : Entry) → T (entry_sound (bounds_of q) gaps e) → EntryIn q.clock highest mode returned e × Apart gaps e.number
+  entry_of_lem : (gaps : List Gap) (e : Entry) → T (entry_sound (bounds_of q) gaps e) → EntryIn q.clock highest mode returned e × Apart gaps e.number
   unfolding fields_sound bounds_of not_passed passed all_of Parts
-  entry_of gaps e t =
+  entry_of_lem gaps e t =
       let p = parts (at_most e.number highest) (entry_tests gaps e) t in
       (record { reached = reached_of _ _ p.0; ahead = ahead_of _ _ _ p.1.0; timestamp-fits = leb→le _ _ p.1.1.1.0; came_by = by_of _ _ p.1.1.1.1.0; payload-fits = leb→le _ _ p.1.1.1.1.1 }, apart_of_not-some e.number gaps p.1.1.0)
 
@@ -218,7 +218,7 @@ module _ (s : State) where
       let q = queue_of_lem s.queue v p.1.0 in
       let g = parts (ascends (gap_numbers s.gaps)) (every? (gap_sound bounds) s.gaps ∷ []) p.1.1.0 in
       let w = parts (ascends (entry_numbers s.entries)) (every? (entry_sound bounds s.gaps) s.entries ∷ []) p.1.1.1.0 in
-      let e = each_of_every (entry_sound bounds s.gaps) s.entries (entry_of s.queue s.gaps) w.1 in
+      let e = each_of_every (entry_sound bounds s.gaps) s.entries (entry_of_lem s.queue s.gaps) w.1 in
       record {
         fits = fits_of p.0;
         queue_in = q.0;
@@ -226,7 +226,7 @@ module _ (s : State) where
             record {
               returned_in = q.1;
               gaps_rise = rising_of_ascends _ s.gaps g.0;
-              gaps_in = each_of_every (gap_sound bounds) s.gaps (gap_of s.queue) g.1;
+              gaps_in = each_of_every (gap_sound bounds) s.gaps (gap_of_lem s.queue) g.1;
               entries_rise = rising_of_ascends _ s.entries w.0;
               entries_in = each_imp (λ x h. h.0) e;
               apart = each_imp (λ x h. h.1) e;
