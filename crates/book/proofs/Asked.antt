@@ -9,11 +9,9 @@ use lib.Dec.{T, T_not, eqb, leb→le, eqb→eq}
 use lib.Ieee.Bits.{cond_no}
 use lib.ListN.{length}
 use borrow.Author.Tests.{eq-eqb}
-use Rattle.rtp.specs.declared.opt.Opt.{Opt}
-use Rattle.rtp.specs.declared.opt.Opt.TheVariants.{None, Some}
+use Rattle.std.specs.Prelude.{Option, None, Some}
 use Rattle.refusals.proofs.Laws.{or_else-none}
 use Rattle.rtx_state.specs.declared.RtxRtt.{RtxRtt}
-use Rattle.rtx_state.specs.declared.OptRtt.TheVariants as OptRtt
 use Rattle.rtx_state.specs.RoundTrip.{nack_resend_delay}
 use Rattle.rtx_state.proofs.Range.{delay_ge}
 use Rattle.config.specs.declared.Settings.{Settings}
@@ -167,7 +165,7 @@ module _ (n : ℕ) where
   of_some [] t h f = absurd t
   of_some (g ∷ gs) t (more h k) f = by_or (eqb g.number n) (some? (is n) gs) t (λ y. f g (eqb→eq g.number n y) h) (λ u. of_some gs u k f)
 
-under_reached : (h : Opt) (n : ℕ) → Under h n → Reached h n
+under_reached : (h : Option ℕ) (n : ℕ) → Under h n → Reached h n
 unfolding Under Reached
 under_reached None n u = u
 under_reached (Some h) n u = omega arith
@@ -220,10 +218,10 @@ named-is : {c : Config} {s : State} {b : Book} (now : ℕ) → Same c s b → na
 unfolding named_at due_gaps
 named-is {s = s} now same = by-same (λ (c : Config) (b : Book). named_at c now b ≡ due_gaps now s.queue s.gaps) same refl
 
-resend-is : {c : Config} {s : State} {b : Book} (e : RtxRtt) → Same c s b → estimate_in c.senders.has_rtx b.estimate ≡ OptRtt.Some e → (timings_of s.queue).resend ≡ nack_resend_delay e
+resend-is : {c : Config} {s : State} {b : Book} (e : RtxRtt) → Same c s b → estimate_in c.senders.has_rtx b.estimate ≡ Some e → (timings_of s.queue).resend ≡ nack_resend_delay e
 unfolding timings_in nack_timings resend_delay_of
 resend-is {s = s} e same m =
-    by-same (λ (c : Config) (b : Book). estimate_in c.senders.has_rtx b.estimate ≡ OptRtt.Some e → (timings_of s.queue).resend ≡ nack_resend_delay e) same
+    by-same (λ (c : Config) (b : Book). estimate_in c.senders.has_rtx b.estimate ≡ Some e → (timings_of s.queue).resend ≡ nack_resend_delay e) same
     (λ q. rw q refl) m
 
 -- in a list or on the wire, the same is left
@@ -259,5 +257,5 @@ nacks-apart =
           by-measured m (λ r q. omega (arith, again later n (parse y.stored) ky.sound g r (resend-is r ky.inv.same q) j));
     }
   where
-    by-measured : {c : Config} {b : Book} {X : Type 0} → Measured c b → ((r : RtxRtt) → estimate_in c.senders.has_rtx b.estimate ≡ OptRtt.Some r → X) → X
+    by-measured : {c : Config} {b : Book} {X : Type 0} → Measured c b → ((r : RtxRtt) → estimate_in c.senders.has_rtx b.estimate ≡ Some r → X) → X
     by-measured (measured r q) f = f r q

@@ -11,15 +11,14 @@ use lib.Ieee.Bits.{cond_no, is_true}
 use lib.Ieee.Fits.{and_l, and_r}
 use lib.ListN.{length}
 use Rattle.rtp.specs.Numbers.{low_bits, apart}
-use Rattle.rtp.specs.declared.opt.Opt.{Opt}
-use Rattle.rtp.specs.declared.opt.Opt.TheVariants.{None, Some}
+use Rattle.model.specs.declared.Received.{Received}
+use Rattle.std.specs.Prelude.{Option, None, Some}
 use Rattle.rtp.proofs.Laws.{extends}
 use Rattle.durations.specs.Seconds.{largest}
 use Rattle.rtp_packet.specs.Header.{sequence_number, timestamp, payload_of}
 use Rattle.rtp_packet.specs.Original.{original_number}
 use Rattle.config.specs.declared.Settings.{Settings}
 use Rattle.model.specs.declared.Config.{Config}
-use Rattle.model.specs.declared.LastReceived.{LastReceived}
 use Rattle.model.specs.declared.Queue.{Queue}
 use Rattle.model.specs.Lists.{some?}
 use Rattle.model.specs.Records.{Entry, Gap, State, highest_of, last_timestamp_of}
@@ -49,10 +48,10 @@ use Rattle.book.proofs.Theorem.{ran, call-taken, call-answer}
 
 -- ---- what runs along
 
-unfoldable Begun : Span → LastReceived → Type 0
+unfoldable Begun : Span → Option Received → Type 0
 Begun none l = Unit {0}
-Begun (from_to f h) LastReceived.None = ⊥
-Begun (from_to f h) (LastReceived.Some r) = (65536 ≤ f) × ((f ≤ h) × (f ≡ h → 2 ^ 32 ≤ r.timestamp.0))
+Begun (from_to f h) None = ⊥
+Begun (from_to f h) (Some r) = (65536 ≤ f) × ((f ≤ h) × (f ≡ h → 2 ^ 32 ≤ r.timestamp.0))
 
 -- a media packet: what follows of run and last packet is by its place alone
 module _ (c : Config) (now n : ℕ) where
@@ -88,17 +87,17 @@ media_last now e (far h) s = depth_last (after_queued now e (far h) s)
 media_last now e fills s = depth_last (after_queued now e fills s)
 media_last now e other s = refl
 
-begun-after : (now ts n : ℕ) (span : Span) (last : LastReceived) (gaps : List Gap) {p : Place} → highest_of last ≡ B.highest span → Stands (highest_of last) gaps n p
+begun-after : (now ts n : ℕ) (span : Span) (last : Option Received) (gaps : List Gap) {p : Place} → highest_of last ≡ B.highest span → Stands (highest_of last) gaps n p
     → (highest_of last ≡ None → (65536 ≤ n) × (2 ^ 32 ≤ ts)) → Begun span last → Begun (span_after n p span) (last_after now ts n p last)
 unfolding Begun span_after last_after highest_of B.highest
 begun-after now ts n span last gaps e (is-first at) new b = let k = new at in (k.0, (omega arith, λ z. k.1))
 begun-after now ts n none last gaps e (is_near at lt) new b = tt
-begun-after now ts n (from_to f g) LastReceived.None gaps e (is_near at lt) new b = absurd b
-begun-after now ts n (from_to f g) (LastReceived.Some r) gaps e (is_near {h = h} at lt) new b =
+begun-after now ts n (from_to f g) None gaps e (is_near at lt) new b = absurd b
+begun-after now ts n (from_to f g) (Some r) gaps e (is_near {h = h} at lt) new b =
     let q : ◌≡◌ {A = ℕ} g h = cc in (b.0, (omega (arith, b.1.0), λ z. absurd (omega (arith, b.1.0))))
 begun-after now ts n none last gaps e (is_far at lt) new b = tt
-begun-after now ts n (from_to f g) LastReceived.None gaps e (is_far at lt) new b = absurd b
-begun-after now ts n (from_to f g) (LastReceived.Some r) gaps e (is_far {h = h} at lt) new b =
+begun-after now ts n (from_to f g) None gaps e (is_far at lt) new b = absurd b
+begun-after now ts n (from_to f g) (Some r) gaps e (is_far {h = h} at lt) new b =
     let q : ◌≡◌ {A = ℕ} g h = cc in (b.0, (omega (arith, b.1.0), λ z. absurd (omega (arith, b.1.0))))
 begun-after now ts n span last gaps e (is-gap t) new b = b
 begun-after now ts n span last gaps e is-other new b = b
@@ -108,9 +107,9 @@ first_values : (q : Queue) (got ts : ℕ) → highest_of q.last ≡ None → (ex
 unfolding extended_number extended_timestamp highest_of last_timestamp_of extended
 first_values q got ts = go q.last
   where
-    go : (l : LastReceived) → highest_of l ≡ None → (extended 16 (highest_of l) got ≡ 65536 + got) × (extended 32 (last_timestamp_of l) ts ≡ 2 ^ 32 + ts)
-    go LastReceived.None e = (omega arith, omega arith)
-    go (LastReceived.Some r) e = let z : ◌≡◌ {A = ℕ} 0 1 = cc in absurd (omega arith)
+    go : (l : Option Received) → highest_of l ≡ None → (extended 16 (highest_of l) got ≡ 65536 + got) × (extended 32 (last_timestamp_of l) ts ≡ 2 ^ 32 + ts)
+    go None e = (omega arith, omega arith)
+    go (Some r) e = let z : ◌≡◌ {A = ℕ} 0 1 = cc in absurd (omega arith)
 
 -- ---- each call
 
@@ -124,7 +123,7 @@ module _ (now : ℕ) (d : List ℕ) {c : Config} {s : State} {b : Book} (same : 
   -- the queue's number of a media packet is the book's, and so is its place
   read_is : read b (sequence_number d) ≡ packet.number
   unfolding read media_entry_of extended_number
-  read_is = ap (λ (o : Opt). extended 16 o (sequence_number d)) (sym same.highest)
+  read_is = ap (λ (o : Option ℕ). extended 16 o (sequence_number d)) (sym same.highest)
 
   place_is : place_of (B.highest b.span) b.missing (read b (sequence_number d)) ≡ place
   place_is = let top = sym same.highest in let open-gaps = sym same.gaps in λ i. place_of (top i) (open-gaps i) (read_is i)
@@ -199,15 +198,15 @@ begun (further r n) = begun_next r (begun r) n
 -- ---- the theorem
 
 -- what is known of the highest number and the last timestamp where the first number f is the highest
-record Alone (last : LastReceived) (f : ℕ) : Type 0 where
+record Alone (last : Option Received) (f : ℕ) : Type 0 where
   from_cycle_one : 65536 ≤ f
   number_fits : f ≤ largest
   stamp : (ts : ℕ) → last_timestamp_of last ≡ Some ts → (2 ^ 32 ≤ ts) × (ts ≤ largest)
 
-alone : (clock : ℕ) (last : LastReceived) (f : ℕ) → highest_of last ≡ Some f → T (last_sound clock last) → Begun (from_to f f) last → Alone last f
+alone : (clock : ℕ) (last : Option Received) (f : ℕ) → highest_of last ≡ Some f → T (last_sound clock last) → Begun (from_to f f) last → Alone last f
 unfolding Begun highest_of last_timestamp_of last_sound
-alone clock LastReceived.None f e t b = absurd b
-alone clock (LastReceived.Some r) f e t b =
+alone clock None f e t b = absurd b
+alone clock (Some r) f e t b =
     let at : ◌≡◌ {A = ℕ} r.number.0 f = cc in
     let u = and_r (leb r.instant clock) (leb r.timestamp.0 largest && leb r.number.0 largest) t in
     let n = leb→le r.number.0 largest (and_r (leb r.timestamp.0 largest) (leb r.number.0 largest) u) in
@@ -261,7 +260,7 @@ module _ {c : Config} {t : Storage} {ks : List Call} {now : ℕ} {d : List ℕ} 
   first-is e =
       let top : highest_of s.queue.last ≡ None = k.inv.same.highest ∙ ap B.highest e in
       let v = first_values s.queue (sequence_number d) (timestamp d) top in
-      let p : stood ≡ first = ap (λ (o : Opt). place_of o s.gaps n) top in (
+      let p : stood ≡ first = ap (λ (o : Option ℕ). place_of o s.gaps n) top in (
         span-is ∙ ap (λ (q : Place). span_after n q x.book.span) p ∙ ap (λ (m : ℕ). from_to m m) v.0,
         ap last_timestamp_of (last-is ∙ ap (λ (q : Place). last_after now (media_entry_of now d s.queue).timestamp n q s.queue.last) p) ∙ ap Some v.1,
       )
@@ -277,7 +276,7 @@ module _ {c : Config} {t : Storage} {ks : List Call} {now : ℕ} {d : List ℕ} 
     number_is : (m : ℕ) → m < 2 ^ 64 → 2 * apart f m < 2 ^ 16 → sequence_number d ≡ low_bits 16 m → n ≡ m
     unfolding media_entry_of extended_number
     number_is m fits h q =
-        ap (λ (o : Opt). extended 16 o (sequence_number d)) top ∙ ap (extended 16 (Some f)) q
+        ap (λ (o : Option ℕ). extended 16 o (sequence_number d)) top ∙ ap (extended 16 (Some f)) q
         ∙ near_number 16 (lit≤ tt) f m (omega (arith, only.number_fits)) fits h
 
     -- no number but f is in the run, so none is missing
@@ -313,7 +312,7 @@ module _ {c : Config} {t : Storage} {ks : List Call} {now : ℕ} {d : List ℕ} 
     earlier-is ts j at h q =
         let b = only.stamp ts at in
         let m : extended 32 (last_timestamp_of s.queue.last) (timestamp d) ≡ ts - j
-        = ap (λ (o : Opt). extended 32 o (timestamp d)) at ∙ ap (extended 32 (Some ts)) q ∙ near_number 32 (lit≤ tt) ts (ts - j) (omega arith) (omega arith) (omega arith) in
+        = ap (λ (o : Option ℕ). extended 32 o (timestamp d)) at ∙ ap (extended 32 (Some ts)) q ∙ near_number 32 (lit≤ tt) ts (ts - j) (omega arith) (omega arith) (omega arith) in
         omega arith
 
     ahead-is : (j : ℕ) → 1 ≤ j → j ≤ 32767 → sequence_number d ≡ low_bits 16 (f + j) → ((did (media now d) x.stored).answer ≡ queued) × ((call c x (media now d)).book.span ≡ from_to f (f + j))

@@ -10,8 +10,7 @@ use lib.Arith.{le→nltb}
 use lib.Ieee.Fits.{and_l, and_r, and_i}
 use lib.Dec.{T, T_not, not_T, ltb, leb→le, le→leb, ltb→lt, lt→ltb}
 use lib.Ieee.Bits.{cond_no}
-use Rattle.rtp.specs.declared.opt.Opt.{Opt}
-use Rattle.rtp.specs.declared.opt.Opt.TheVariants.{None, Some}
+use Rattle.std.specs.Prelude.{Option, None, Some}
 use Rattle.config.specs.declared.RtpInboundQueueMode.{RtpInboundQueueMode}
 use Rattle.config.specs.declared.RtpInboundStreamSortedQueueMode.{RtpInboundStreamSortedQueueMode}
 use Rattle.config.specs.declared.RtpInboundQueueMode.TheVariants.{Passthrough, SortedQueue}
@@ -28,7 +27,7 @@ use Rattle.model.proofs.SoundPoll.{each_remembered}
 -- ---- a number that is not above the last returned
 
 -- has no place
-passed-other : (mode : RtpInboundQueueMode) (r highest : Opt) (gaps : List Gap) (n : ℕ)
+passed-other : (mode : RtpInboundQueueMode) (r highest : Option ℕ) (gaps : List Gap) (n : ℕ)
     → T (passed mode r n) → Returned highest r → (T (some? (is n) gaps) → Ahead mode r n) → place_of highest gaps n ≡ other
 unfolding passed at_most Returned Reached Ahead place_of
 passed-other Passthrough r highest gaps n t u f = absurd t
@@ -56,7 +55,7 @@ module _ (s : State) (l : ListsOf s) where
 -- ---- numbers handed out, and remembered
 
 -- of the last returned, the numbers handed out and those remembered
-unfoldable pub Past : RtpInboundQueueMode → Opt → List ℕ → List Remembered → Type 0
+unfoldable pub Past : RtpInboundQueueMode → Option ℕ → List ℕ → List Remembered → Type 0
 Past Passthrough r out l = l ≡ []
 Past (SortedQueue sorted) r out l = T (ascends out) × (Each (λ (n : ℕ). T (at_most n r)) out × Each (λ (x : Remembered). T (at_most x.number r)) l)
 
@@ -68,13 +67,13 @@ unfolding Past ascends
 past_none Passthrough = refl
 past_none (SortedQueue sorted) = (tt, (none, none))
 
-pub past_ascends : (sorted : RtpInboundStreamSortedQueueMode) (r : Opt) (out : List ℕ) (l : List Remembered) → Past (SortedQueue sorted) r out l → T (ascends out)
+pub past_ascends : (sorted : RtpInboundStreamSortedQueueMode) (r : Option ℕ) (out : List ℕ) (l : List Remembered) → Past (SortedQueue sorted) r out l → T (ascends out)
 unfolding Past
 past_ascends sorted r out l p = p.0
 
 -- ---- the last returned moves on
 
-before : (sorted : RtpInboundStreamSortedQueueMode) (r : Opt) (w n : ℕ) → Ahead (SortedQueue sorted) r w → T (at_most n r) → n < w
+before : (sorted : RtpInboundStreamSortedQueueMode) (r : Option ℕ) (w n : ℕ) → Ahead (SortedQueue sorted) r w → T (at_most n r) → n < w
 unfolding Ahead at_most
 before sorted None w n a t = absurd t
 before sorted (Some m) w n a t = omega (arith, leb→le n m t)
@@ -83,7 +82,7 @@ at_most_lem : (w n : ℕ) → n ≤ w → T (at_most n (Some w))
 unfolding at_most
 at_most_lem w n le = le→leb n w le
 
-module _ (sorted : RtpInboundStreamSortedQueueMode) (r : Opt) (w : ℕ) (a : Ahead (SortedQueue sorted) r w) where
+module _ (sorted : RtpInboundStreamSortedQueueMode) (r : Option ℕ) (w : ℕ) (a : Ahead (SortedQueue sorted) r w) where
   stays : (n : ℕ) → T (at_most n r) → T (at_most n (Some w))
   stays n t = let lt : n < w = before sorted r w n a t in at_most_lem w n (omega arith)
 
@@ -91,7 +90,7 @@ module _ (sorted : RtpInboundStreamSortedQueueMode) (r : Opt) (w : ℕ) (a : Ahe
   remembered-stay h = each_imp (λ x t. stays x.number t) h
 
 -- to a number above it
-pub past_advance : (mode : RtpInboundQueueMode) (r : Opt) (w : ℕ) (out : List ℕ) (l : List Remembered) → Ahead mode r w → Past mode r out l → Past mode (Some w) out l
+pub past_advance : (mode : RtpInboundQueueMode) (r : Option ℕ) (w : ℕ) (out : List ℕ) (l : List Remembered) → Ahead mode r w → Past mode r out l → Past mode (Some w) out l
 unfolding Past
 past_advance Passthrough r w out l a p = p
 past_advance (SortedQueue sorted) r w out l a p = (p.0, (each_imp (stays sorted r w a) p.1.0, remembered-stay sorted r w a p.1.1))
@@ -115,7 +114,7 @@ none-remembered false = refl
 none-remembered true = refl
 
 -- w, which is above it, is handed out
-pub past_hand : (mode : RtpInboundQueueMode) (r : Opt) (w : ℕ) (out : List ℕ) (l : List Remembered) (has : Bool) (gaps : List Gap) → Ahead mode r w → Past mode r out l
+pub past_hand : (mode : RtpInboundQueueMode) (r : Option ℕ) (w : ℕ) (out : List ℕ) (l : List Remembered) (has : Bool) (gaps : List Gap) → Ahead mode r w → Past mode r out l
     → Past mode (Some w) (out ++ (w ∷ [])) (remembered_after has (lost_below_of mode w gaps) l)
 unfolding Past lost_below_of remember
 past_hand Passthrough r w out l has gaps a p = ap (remembered_after has []) p ∙ none-remembered has
@@ -138,13 +137,13 @@ none_left : (n : ℕ) → forget_first n [] ≡ []
 unfolding forget_first
 none_left n = refl
 
-pub past_forget : (mode : RtpInboundQueueMode) (r : Opt) (n : ℕ) (out : List ℕ) (l : List Remembered) → Past mode r out l → Past mode r out (forget_first n l)
+pub past_forget : (mode : RtpInboundQueueMode) (r : Option ℕ) (n : ℕ) (out : List ℕ) (l : List Remembered) → Past mode r out l → Past mode r out (forget_first n l)
 unfolding Past
 past_forget Passthrough r n out l p = ap (forget_first n) p ∙ none_left n
 past_forget (SortedQueue sorted) r n out l p = (p.0, (p.1.0, each_forget_first n p.1.1))
 
 -- a number that was not passed is not remembered: it gives no sample, and none is forgotten
-not-remembered : (mode : RtpInboundQueueMode) (r : Opt) (n : ℕ) (out : List ℕ) (l : List Remembered) → T (not (passed mode r n)) → Past mode r out l → Each (λ (x : Remembered). T (not (is_of n x))) l
+not-remembered : (mode : RtpInboundQueueMode) (r : Option ℕ) (n : ℕ) (out : List ℕ) (l : List Remembered) → T (not (passed mode r n)) → Past mode r out l → Each (λ (x : Remembered). T (not (is_of n x))) l
 unfolding Past passed is_of
 not-remembered Passthrough r n out l t p = rw p none
 not-remembered (SortedQueue sorted) r n out l t p =
@@ -160,7 +159,7 @@ unfolding forget_first
 absent_forget n none = refl
 absent_forget n (more {x = x} h k) = cond_no (is_of n x) _ _ h ∙ ap (λ (l : List Remembered). x ∷ l) (absent_forget n k)
 
-module _ (mode : RtpInboundQueueMode) (r : Opt) (n : ℕ) (out : List ℕ) (l : List Remembered) (t : T (not (passed mode r n))) (p : Past mode r out l) where
+module _ (mode : RtpInboundQueueMode) (r : Option ℕ) (n : ℕ) (out : List ℕ) (l : List Remembered) (t : T (not (passed mode r n))) (p : Past mode r out l) where
   pub no_sample : keep (is_of n) l ≡ []
   no_sample = absent_keep n (not-remembered mode r n out l t p)
 

@@ -9,14 +9,14 @@ use native.Mathlib.Omega.{arith}
 use lib.Dec.{T, T_not, leb, ltb}
 use lib.ListN.{length, length-map, drop}
 use lib.Ieee.Bits.{is_true, is_false}
-use Rattle.rtp.specs.declared.opt.Opt.{Opt}
+use Rattle.model.specs.declared.Received.{Received}
+use Rattle.std.specs.Prelude.{Option, None, Some}
 use Rattle.rtp_packet.specs.Header.{sequence_number, payload_of}
 use Rattle.rtp_packet.specs.Original.{original_number}
 use Rattle.rtx_state.specs.Repair as Rtx
 use Rattle.config.specs.declared.RtpInboundQueueMode.{RtpInboundQueueMode}
 use Rattle.model.specs.declared.Config.{Config}
 use Rattle.model.specs.declared.Queue.{Queue}
-use Rattle.model.specs.declared.LastReceived.{LastReceived}
 use Rattle.model.specs.Lists.{some?}
 use Rattle.rtp.specs.Opt.{number_of}
 use Rattle.model.specs.Records.{Entry, Gap, Remembered, State, entry_numbers, highest_of}
@@ -92,17 +92,17 @@ same-within_depth {c} {s} {b} same =
 -- ---- a media packet
 
 -- the queue's last media packet and the book's highest follow a packet alike
-highest-after : (now ts n : ℕ) (l : LastReceived) (s : Span) (gaps : List Gap) → highest_of l ≡ B.highest s
+highest-after : (now ts n : ℕ) (l : Option Received) (s : Span) (gaps : List Gap) → highest_of l ≡ B.highest s
     → highest_of (last_after now ts n (place_of (highest_of l) gaps n) l) ≡ B.highest (span_after n (place_of (highest_of l) gaps n) s)
 unfolding highest_of B.highest last_after span_after place_of
-highest-after now ts n LastReceived.None s gaps e = refl
-highest-after now ts n (LastReceived.Some r) none gaps e = absurd (let z : ◌≡◌ {A = ℕ} 0 1 = cc in omega arith)
-highest-after now ts n (LastReceived.Some r) (from_to f h) gaps e =
+highest-after now ts n None s gaps e = refl
+highest-after now ts n (Some r) none gaps e = absurd (let z : ◌≡◌ {A = ℕ} 0 1 = cc in omega arith)
+highest-after now ts n (Some r) (from_to f h) gaps e =
     by_cases goes (ltb r.number.0 n) (λ t. by_cases goes (leb (n - r.number.0) max_gap_size) (λ u. refl) (λ u. refl))
     (λ t. by_cases goes (some? (is n) gaps) (λ u. e) (λ u. e))
   where
     goes : Place → Type 0
-    goes p = highest_of (last_after now ts n p (LastReceived.Some r)) ≡ B.highest (span_after n p (from_to f h))
+    goes p = highest_of (last_after now ts n p (Some r)) ≡ B.highest (span_after n p (from_to f h))
 
 same-on_media : (now : ℕ) (x : Entry) (p : Place) (s : State) (b : Book) → highest_of s.queue.last ≡ B.highest b.span
     → highest_of (last_after now x.timestamp x.number p s.queue.last) ≡ B.highest (span_after x.number p b.span)
@@ -169,7 +169,7 @@ module _ (now : ℕ) (s : State) (b : Book) (e : highest_of s.queue.last ≡ B.h
   abbrev mode : RtpInboundQueueMode
   mode = s.queue.config.settings.mode
 
-  abbrev returned : Opt
+  abbrev returned : Option ℕ
   returned = number_of s.queue.returned
 
   same_repair : Past mode returned out s.remembered → (x : Entry) → Same s.queue.config (after_fate now x (repair_fate s x.number) s) (on_repair now x.number (beside s b))
@@ -203,7 +203,7 @@ module _ (s : State) (b : Book) (e : highest_of s.queue.last ≡ B.highest b.spa
   unfolding after_media media_entry_of extended_number enter B.read
   same_media now d =
       let x : Entry = media_entry_of now d s.queue in
-      subst (λ (o : Opt). Same s.queue.config (after_media now d s) (on_media s.queue.config now (extended 16 o (sequence_number d)) (place_of o s.gaps (extended 16 o (sequence_number d))) (beside s b))) e
+      subst (λ (o : Option ℕ). Same s.queue.config (after_media now d s) (on_media s.queue.config now (extended 16 o (sequence_number d)) (place_of o s.gaps (extended 16 o (sequence_number d))) (beside s b))) e
       (rw (same_place s f x.number)
       (same-on_media now x (place_of (highest_of s.queue.last) s.gaps x.number) s b e (highest-after now x.timestamp x.number s.queue.last b.span s.gaps e)))
 
@@ -211,7 +211,7 @@ module _ (s : State) (b : Book) (e : highest_of s.queue.last ≡ B.highest b.spa
       → Same s.queue.config (after_repair now d s) (enter s.queue.config (repair now d) (accepted false) (beside s b))
   unfolding after_repair repair_entry extended_number enter B.read
   same-after_repair now d out p =
-      subst (λ (o : Opt). Same s.queue.config (after_repair now d s) (on_repair now (extended 16 o (original_number (payload_of d))) (beside s b))) e
+      subst (λ (o : Option ℕ). Same s.queue.config (after_repair now d s) (on_repair now (extended 16 o (original_number (payload_of d))) (beside s b))) e
       (same_repair now s b e f out p (repair_entry d s.queue))
 
   same-beside-taken : (k : Call) (out : List ℕ) → Past s.queue.config.settings.mode (number_of s.queue.returned) out s.remembered

@@ -7,17 +7,15 @@ use Prim.Native.Nat.{ℕ}
 use native.Mathlib.Omega.{arith}
 use lib.Dec.{eqb}
 use lib.ListN.{length}
-use Rattle.rtp.specs.declared.opt.Opt.{Opt}
-use Rattle.rtp.specs.declared.opt.Opt.TheVariants.{None, Some}
+use Rattle.rtx_state.specs.declared.RtxRtt.{RtxRtt}
+use Rattle.std.specs.Prelude.{Option, None, Some}
 use Rattle.rtp_packet.specs.Header.{sequence_number, payload_of}
 use Rattle.rtp_packet.specs.Original.{original_number}
-use Rattle.rtx_state.specs.declared.OptRtt.{OptRtt}
 use Rattle.rtx_state.specs.RoundTrip.{sampled_rtt, srtt_of}
 use Rattle.rtx_state.specs.Repair as Rtx
 use Rattle.rtx_state.specs.Drift.{Tracks}
 use Rattle.rtx_state.proofs.Smoothed.{drift}
 use Rattle.stats.specs.declared.RtpInboundRtxStats.{RtpInboundRtxStats}
-use Rattle.stats.specs.declared.OptRtxStats.{OptRtxStats}
 use Rattle.model.specs.declared.Config.{Config}
 use Rattle.model.specs.declared.Queue.{Queue}
 use Rattle.model.specs.Lists.{some?}
@@ -38,7 +36,7 @@ use Rattle.book.proofs.Theorem.{ran}
 -- ---- one call
 
 -- the estimate of b is that one
-abbrev Moves : OptRtt → Book → Type 0
+abbrev Moves : Option RtxRtt → Book → Type 0
 Moves rtt b = b.estimate ≡ rtt
 
 push_out-moves : (l : List ℕ) (b : Book) → (push_out_of l b).estimate ≡ b.estimate
@@ -63,7 +61,7 @@ unfolding on_poll give_up
 on_poll-moves c true b = take_lowest-moves c b.waiting (give_up c b)
 on_poll-moves c false b = refl
 
-sampled-is : (now : ℕ) (o : Opt) (rtt : OptRtt) → sampled_at now o rtt ≡ foldl sampled_rtt rtt (round_trip now o)
+sampled-is : (now : ℕ) (o : Option ℕ) (rtt : Option RtxRtt) → sampled_at now o rtt ≡ foldl sampled_rtt rtt (round_trip now o)
 unfolding sampled_at round_trip
 sampled-is now None rtt = refl
 sampled-is now (Some i) rtt = refl
@@ -98,27 +96,27 @@ estimate-from c x [] = refl
 estimate-from c x (k ∷ ks) =
     let h = hear (did k x.stored).answer in
     estimate-from c (call c x k) ks
-    ∙ ap (λ (rtt : OptRtt). foldl sampled_rtt rtt (samples_from c (call c x k) ks)) (enter-moves c k h x.book)
+    ∙ ap (λ (rtt : Option RtxRtt). foldl sampled_rtt rtt (samples_from c (call c x k) ks)) (enter-moves c k h x.book)
     ∙ sym (foldl-append sampled_rtt x.book.estimate (yields k h x.book) (samples_from c (call c x k) ks))
 
-estimate-is : (c : Config) (ks : List Call) → (calls c ks).book.estimate ≡ foldl sampled_rtt OptRtt.None (samples c ks)
+estimate-is : (c : Config) (ks : List Call) → (calls c ks).book.estimate ≡ foldl sampled_rtt None (samples c ks)
 unfolding calls start empty
 estimate-is c ks = estimate-from c (start c) ks
 
 -- ---- what is shown
 
-figures_rtt : (m : Stored) (f : RtpInboundRtxStats) → (did rtx_stats m).answer ≡ stats (OptRtxStats.Some f) → f.rtt ≡ srtt_of (parse m).queue.rtx.rtt
+figures_rtt : (m : Stored) (f : RtpInboundRtxStats) → (did rtx_stats m).answer ≡ stats (Some f) → f.rtt ≡ srtt_of (parse m).queue.rtx.rtt
 unfolding did accepted turned_back answered repair_figures_of Rtx.rtx_stats
 figures_rtt m f = go (eqb (refusal rtx_stats m) 0)
   where
     q : Queue
     q = (parse m).queue
 
-    told : (rtx : Bool) → stats (cond rtx (OptRtxStats.Some (Rtx.rtx_stats q.rtx)) OptRtxStats.None) ≡ stats (OptRtxStats.Some f) → f.rtt ≡ srtt_of q.rtx.rtt
+    told : (rtx : Bool) → stats (cond rtx (Some (Rtx.rtx_stats q.rtx)) None) ≡ stats (Some f) → f.rtt ≡ srtt_of q.rtx.rtt
     told true e = let s : Rtx.rtx_stats q.rtx ≡ f = cc in ap (λ (x : RtpInboundRtxStats). x.rtt) (sym s)
     told false e = let z : ◌≡◌ {A = ℕ} 0 1 = cc in absurd (omega arith)
 
-    go : (b : Bool) → (cond b (accepted rtx_stats (parse m)) (turned_back (refusal rtx_stats m) rtx_stats m)).answer ≡ stats (OptRtxStats.Some f) → f.rtt ≡ srtt_of q.rtx.rtt
+    go : (b : Bool) → (cond b (accepted rtx_stats (parse m)) (turned_back (refusal rtx_stats m) rtx_stats m)).answer ≡ stats (Some f) → f.rtt ≡ srtt_of q.rtx.rtt
     go true e = told q.config.senders.has_rtx e
     go false e = let z : ◌≡◌ {A = ℕ} 0 1 = cc in absurd (omega arith)
 
@@ -128,6 +126,6 @@ shown-tracks =
       shown =
           λ c t ks f o e.
           let x = calls c ks in
-          let rtt : f.rtt ≡ srtt_of (foldl sampled_rtt OptRtt.None (samples c ks)) = figures_rtt x.stored f e ∙ ap srtt_of ((kept (ran c t ks o)).inv.same.estimate ∙ estimate-is c ks) in
-          subst (λ (r : Opt). Tracks r (samples c ks)) (sym rtt) (drift.tracks (samples c ks));
+          let rtt : f.rtt ≡ srtt_of (foldl sampled_rtt None (samples c ks)) = figures_rtt x.stored f e ∙ ap srtt_of ((kept (ran c t ks o)).inv.same.estimate ∙ estimate-is c ks) in
+          subst (λ (r : Option ℕ). Tracks r (samples c ks)) (sym rtt) (drift.tracks (samples c ks));
     }

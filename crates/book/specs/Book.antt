@@ -1,11 +1,9 @@
 -- 01, "Book", a term that 01 coins: which number waits, is missing, was handed out, lost or forgotten (01's word too). It is fed the settings,
 -- each call, and of the answers only whether the call was refused and whether `poll` handed out. It never looks at a session.
-use Rattle.std.specs.Prelude.{Bool, cond, List, [], ◌∷◌, ◌++◌, ℕ, suc, ◌-◌, length}
-use Rattle.rtp.specs.declared.opt.Opt.{Opt}
-use Rattle.rtp.specs.declared.opt.Opt.TheVariants.{None, Some}
+use Rattle.std.specs.Prelude.{Bool, cond, List, [], ◌∷◌, ◌++◌, ℕ, suc, ◌-◌, length, Option, None, Some}
+use Rattle.rtx_state.specs.declared.RtxRtt.{RtxRtt}
 use Rattle.rtp_packet.specs.Header.{sequence_number, payload_of}
 use Rattle.rtp_packet.specs.Original.{original_number}
-use Rattle.rtx_state.specs.declared.OptRtt.{OptRtt}
 use Rattle.config.specs.declared.Settings.{Settings}
 use Rattle.model.specs.declared.Config.{Config}
 use Rattle.model.specs.Lists.{following, some?}
@@ -24,7 +22,7 @@ pub data Span : Type 0 where
   none : Span
   from_to : ℕ → ℕ → Span
 
-unfoldable pub highest : Span → Opt
+unfoldable pub highest : Span → Option ℕ
 highest none = None
 highest (from_to f h) = Some h
 
@@ -39,12 +37,12 @@ pub record Book : Type 0 where
   pub lost : List ℕ
   pub forgotten : List ℕ
   -- "NACKs and resend delay being reckoned in the book after Gap and Repair state": from these
-  pub estimate : OptRtt
+  pub estimate : Option RtxRtt
   pub remembered : List Remembered
 
 -- "none at the opening"
 unfoldable pub empty : Book
-empty = record { span = none; waiting = []; missing = []; handed = []; lost = []; forgotten = []; estimate = OptRtt.None; remembered = [] }
+empty = record { span = none; waiting = []; missing = []; handed = []; lost = []; forgotten = []; estimate = None; remembered = [] }
 
 -- ---- one field at a time: a record has no update
 
@@ -67,7 +65,7 @@ module _ (b : Book) where
   abbrev pub with_forgotten : List ℕ → Book
   with_forgotten x = record { span = b.span; waiting = b.waiting; missing = b.missing; handed = b.handed; lost = b.lost; forgotten = x; estimate = b.estimate; remembered = b.remembered }
 
-  abbrev pub with_estimate : OptRtt → Book
+  abbrev pub with_estimate : Option RtxRtt → Book
   with_estimate x = record { span = b.span; waiting = b.waiting; missing = b.missing; handed = b.handed; lost = b.lost; forgotten = b.forgotten; estimate = x; remembered = b.remembered }
 
   abbrev pub with_remembered : List Remembered → Book

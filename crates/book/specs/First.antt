@@ -1,7 +1,6 @@
 -- 02, point 2: "so that, next after that first packet, whatever is under half a cycle behind it reads as earlier, and such a number is dropped".
-use Rattle.std.specs.Prelude.{◌≡◌, List, ℕ, ◌+◌, ◌-◌, ◌*◌, ◌^◌, ◌≤◌, ◌<◌}
+use Rattle.std.specs.Prelude.{◌≡◌, List, ℕ, ◌+◌, ◌-◌, ◌*◌, ◌^◌, ◌≤◌, ◌<◌, Some}
 use Rattle.rtp.specs.Numbers.{low_bits}
-use Rattle.rtp.specs.declared.opt.Opt.TheVariants.{Some}
 use Rattle.rtp_packet.specs.Header.{sequence_number, timestamp}
 use Rattle.model.specs.declared.Config.{Config}
 use Rattle.model.specs.Records.{last_timestamp_of}

@@ -1,8 +1,7 @@
 -- 02, point 6, as an operator sees it: how soon a number can be asked for again, in a list or on the wire (02, point 1).
-use Rattle.std.specs.Prelude.{◌≡◌, List, ◌∷◌, ◌++◌, map, ℕ, ◌+◌, ◌≤◌, T}
+use Rattle.std.specs.Prelude.{◌≡◌, List, ◌∷◌, ◌++◌, map, ℕ, ◌+◌, ◌≤◌, T, Some}
 use Rattle.words.specs.Words.{over}
 use Rattle.rtx_state.specs.declared.RtxRtt.{RtxRtt}
-use Rattle.rtx_state.specs.declared.OptRtt.TheVariants.{Some}
 use Rattle.model.specs.declared.Config.{Config}
 use Rattle.model.specs.Lists.{keep, some?}
 use Rattle.nack_pairs.specs.Wire.{entries}

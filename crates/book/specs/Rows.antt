@@ -1,9 +1,8 @@
 -- 01, "Examples": the rows marked P, as one table, the row on the initial delay, and the figures of 02's points 2 and 5. Rows on media numbers are real calls on a newly opened
 -- session in its storage.
-use Rattle.std.specs.Prelude.{◌≡◌, Bool, true, false, cond, ℕ, ◌+◌, ◌*◌, ◌/◌, ◌%◌, eqb, ltb, length, replicate}
+use Rattle.std.specs.Prelude.{◌≡◌, Bool, true, false, cond, ℕ, ◌+◌, ◌*◌, ◌/◌, ◌%◌, eqb, ltb, length, replicate, Option, None, Some}
 use mathlib.Core.List.{List, [], ◌∷◌, map, foldl}
-use Rattle.rtp.specs.declared.opt.Opt.TheVariants as Opt
-use Rattle.rtx_state.specs.declared.OptRtt.{OptRtt}
+use Rattle.rtx_state.specs.declared.RtxRtt.{RtxRtt}
 use Rattle.rtx_state.specs.RoundTrip.{sampled_rtt}
 use Rattle.rtx_state.specs.Drift.{recurrence}
 use Rattle.config.specs.declared.RtpInboundStreamSortedQueueMode.TheVariants.{Fixed}
@@ -36,7 +35,7 @@ pub data Found : Type 0 where
   number : ℕ → Found
   counted : (gaps forgotten : ℕ) → Found
   listed : (all accounted : List ℕ) → Found
-  estimate : OptRtt → Found
+  estimate : Option RtxRtt → Found
   original : (number : ℕ) (payload : List ℕ) → Found
   refused : ℕ → Found
   is_due : Bool → Found
@@ -67,7 +66,7 @@ rows =
     -- "D = 1, numbers 10, 12": by 02, point 2, "65,546 to 65,548, and 65,547, 65,548"
     ∷ record { asked = lists 1 (10 ∷ 12 ∷ []); said = listed (65546 ∷ 65547 ∷ 65548 ∷ []) (65547 ∷ 65548 ∷ []) }
     -- "samples 80, 100: srtt 82, variation 35"
-    ∷ record { asked = samples (80 ∷ 100 ∷ []); said = estimate (OptRtt.Some (record { srtt = 82; variation = 35 })) }
+    ∷ record { asked = samples (80 ∷ 100 ∷ []); said = estimate (Some (record { srtt = 82; variation = 35 })) }
     -- "repair payload 00 0B (hexadecimal): number 11, empty payload"
     ∷ record { asked = repair_payload (0x00 ∷ 0x0b ∷ []); said = original 11 [] }
     -- "Payload 00: refusal 11"
@@ -99,19 +98,19 @@ datagram n = 0x80 ∷ 0 ∷ n / 256 ∷ n % 256 ∷ 0 ∷ 0 ∷ 0 ∷ 0 ∷ 0 �
 unfoldable pub received : ℕ → List ℕ → Run
 received D numbers = calls (config D 5000000) (map (λ (n : ℕ). media 0 (datagram n)) numbers)
 
-unfoldable pub srtt_in : OptRtt → ℕ
-srtt_in OptRtt.None = 0
-srtt_in (OptRtt.Some e) = e.srtt
+unfoldable pub srtt_in : Option RtxRtt → ℕ
+srtt_in None = 0
+srtt_in (Some e) = e.srtt
 
 unfoldable pub answer : Question → Found
 unfolding received
-answer (reference highest n) = number (extended 16 (Opt.Some highest) n)
+answer (reference highest n) = number (extended 16 (Some highest) n)
 answer (counts D numbers) = counted (length (parse (received D numbers).stored).gaps) (length (received D numbers).book.forgotten)
 answer (lists D numbers) = listed (expected (received D numbers).book) (sort (accounted (received D numbers).book))
-answer (samples l) = estimate (foldl sampled_rtt OptRtt.None l)
-answer (nack_due initial_delay detected now) = is_due (due (timings_in (config 1 initial_delay) OptRtt.None) now (fresh detected 0))
+answer (samples l) = estimate (foldl sampled_rtt None l)
+answer (nack_due initial_delay detected now) = is_due (due (timings_in (config 1 initial_delay) None) now (fresh detected 0))
 answer (drift bound r rs) =
-    is_within (ltb (recurrence r rs).numerator ((srtt_in (foldl sampled_rtt OptRtt.None (r ∷ rs)) + bound) * (recurrence r rs).denominator))
+    is_within (ltb (recurrence r rs).numerator ((srtt_in (foldl sampled_rtt None (r ∷ rs)) + bound) * (recurrence r rs).denominator))
 answer (repair_payload p) = cond (eqb (original_refusal p) 0) (original (original_number p) (original_payload p)) (refused (original_refusal p))
 
 unfoldable pub RowsHold : Type 0

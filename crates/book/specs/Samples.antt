@@ -1,12 +1,9 @@
 -- 02, point 5, over every list of calls: the samples that the calls yield, told by the book, and the figure that `rtx_stats` shows of them.
-use Rattle.std.specs.Prelude.{◌≡◌, cond, List, [], ◌∷◌, ◌++◌, ℕ, ◌-◌}
-use Rattle.rtp.specs.declared.opt.Opt.{Opt}
-use Rattle.rtp.specs.declared.opt.Opt.TheVariants.{None, Some}
+use Rattle.std.specs.Prelude.{◌≡◌, cond, List, [], ◌∷◌, ◌++◌, ℕ, ◌-◌, Option, None, Some}
 use Rattle.rtp_packet.specs.Header.{payload_of}
 use Rattle.rtp_packet.specs.Original.{original_number}
 use Rattle.rtx_state.specs.Drift.{Tracks}
 use Rattle.stats.specs.declared.RtpInboundRtxStats.{RtpInboundRtxStats}
-use Rattle.stats.specs.declared.OptRtxStats.TheVariants as OptRtxStats
 use Rattle.model.specs.declared.Config.{Config}
 use Rattle.model.specs.Lists.{some?}
 use Rattle.model.specs.Rules.{is, gap_nacked_at, lost_nacked_at}
@@ -18,7 +15,7 @@ use Rattle.book.specs.Book.{Heard, refused, accepted, Book, read}
 use Rattle.book.specs.Claim.{hear, Run, start, call, calls}
 
 -- from the instant of a number's only NACK, if that is known, until now
-unfoldable pub round_trip : ℕ → Opt → List ℕ
+unfoldable pub round_trip : ℕ → Option ℕ → List ℕ
 round_trip now None = []
 round_trip now (Some nacked) = (now - nacked) ∷ []
 
@@ -50,4 +47,4 @@ samples c ks = samples_from c (start c) ks
 pub record ShownTracks : Type 0 where
   pub shown :
       (c : Config) (t : Storage) (ks : List Call) (f : RtpInboundRtxStats) → opening_refusal c t ≡ 0
-      → (did rtx_stats (calls c ks).stored).answer ≡ stats (OptRtxStats.Some f) → Tracks f.rtt (samples c ks)
+      → (did rtx_stats (calls c ks).stored).answer ≡ stats (Some f) → Tracks f.rtt (samples c ks)

@@ -58,9 +58,9 @@ module _ (bytes : ℕ) (ends : List ℕ) (places : ℕ) where
   unfolding burst_refusal refuse_if
   no_places e h = rw (e, lt-leb (length ends) places h)
 
-  pub none-refused : ends_fit bytes 0 ends ≡ true → length ends ≤ places → 0 ≡ burst_refusal bytes ends places
+  pub none_refused : ends_fit bytes 0 ends ≡ true → length ends ≤ places → 0 ≡ burst_refusal bytes ends places
   unfolding burst_refusal refuse_if
-  none-refused e h = rw (e, le-leb (length ends) places h)
+  none_refused e h = rw (e, le-leb (length ends) places h)
 
   -- a call that 15 does not catch
   pub fit_of : burst_refusal bytes ends places ≡ 0 → (ends_fit bytes 0 ends ≡ true) × (length ends ≤ places)

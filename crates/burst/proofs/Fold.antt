@@ -7,7 +7,10 @@ use native.Mathlib.Omega.{arith}
 use native.Mathlib.Numerals.{add-one}
 use lib.ListN.{length, take, drop, get_or, set, length-set}
 use lib.Seq.{drop-cons, take_all}
-use borrow.Author.Tests.{eq-eqb, ne_eqb}
+use borrow.Author.Tests.{eq-eqb}
+use Rattle.refusals.specs.declared.Refusal.{Refusal}
+use Rattle.refusals.specs.Refusals.{number}
+use Rattle.refusals.proofs.Laws.{number_refuses}
 use Rattle.words.specs.Words.{over}
 use Rattle.words.proofs.Over.{over_more}
 use Rattle.rtp_packet.specs.Header.{between}
@@ -70,19 +73,13 @@ pub record Along (now : ℕ) (buffer ends lent : List ℕ) (first : Stored) (sta
   pub same : length answers ≡ length lent
   pub stands : Stands standing m
 
--- the slices keep their lengths
-pub record Sizes (e₀ p₀ g₀ r₀ e p g r : List ℕ) : Type 0 where
-  pub entries : length e ≡ length e₀
-  pub payloads : length p ≡ length p₀
-  pub gaps : length g ≡ length g₀
-  pub remembered : length r ≡ length r₀
-
 module _ (now : ℕ) (buffer ends lent : List ℕ) (first : Stored) where
   pub along_none : (standing : Standing) → ends_fit (length buffer) 0 ends ≡ true → Stands standing first → Along now buffer ends lent first standing first lent 0 0
   unfolding pushed over
   along_none standing h s = record { within = omega arith; rest = refl; fit = h; left = refl; told = refl; same = refl; stands = s }
 
-  module _ (standing : Standing) (m : Stored) (answers : List ℕ) (from i : ℕ) (h : Along now buffer ends lent first standing m answers from i) (t : i < length ends) where
+module _ {now : ℕ} {buffer ends lent : List ℕ} {first : Stored} {standing : Standing} {m : Stored} {answers : List ℕ} {from i : ℕ} (h : Along now buffer ends lent first standing m answers from i) where
+  module _ (t : i < length ends) where
     pub part_in : (from ≤ get_or ends i 0) × (get_or ends i 0 ≤ length buffer)
     part_in = let k = end_in (length buffer) from ends i t h.fit in (k.0, k.1)
 
@@ -107,9 +104,8 @@ module _ (now : ℕ) (buffer ends lent : List ℕ) (first : Stored) where
           stands = s;
         }
 
-  pub along_all : (standing : Standing) (m : Stored) (answers : List ℕ) (from i : ℕ) → Along now buffer ends lent first standing m answers from i → length ends ≤ i
-      → (m ≡ pushed now (datagrams buffer ends) first) × (answers ≡ over (answer_numbers now (datagrams buffer ends) first) lent)
-  along_all standing m answers from i h t =
+  pub along_all : length ends ≤ i → (m ≡ pushed now (datagrams buffer ends) first) × (answers ≡ over (answer_numbers now (datagrams buffer ends) first) lent)
+  along_all t =
       let ds = datagrams buffer ends in
       let n : length ds ≡ length ends = length-parts 0 buffer ends in
       let nq : length (answer_numbers now ds first) ≡ length ds = length-numbers now ds first in (
@@ -117,11 +113,12 @@ module _ (now : ℕ) (buffer ends lent : List ℕ) (first : Stored) where
         h.told ∙ ap (λ (l : List ℕ). over l lent) (take_all i (answer_numbers now ds first) (omega arith)),
       )
 
-  -- ---- the whole call
+-- ---- the whole call
 
-  pub burst-refused : (k : ℕ) → k ≡ burst_refusal (length buffer) ends (length lent) → (k ≡ 0 → ⊥) → did_burst now buffer ends lent first ≡ record { refusal = k; count = 0; stored = first; output = lent }
+module _ (now : ℕ) (buffer ends lent : List ℕ) (first : Stored) where
+  pub burst-refused : (k : Refusal) → number k ≡ burst_refusal (length buffer) ends (length lent) → did_burst now buffer ends lent first ≡ record { refusal = number k; count = 0; stored = first; output = lent }
   unfolding did_burst
-  burst-refused k e h = rw (← e, ne_eqb k 0 h)
+  burst-refused k e = rw (← e, number_refuses k)
 
   pub burst-done : burst_refusal (length buffer) ends (length lent) ≡ 0 → (m : Stored) (answers : List ℕ)
       → m ≡ pushed now (datagrams buffer ends) first → answers ≡ over (answer_numbers now (datagrams buffer ends) first) lent

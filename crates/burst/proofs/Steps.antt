@@ -1,29 +1,28 @@
--- One datagram of a burst: an accepted call leaves the session settled (`StaysSound`), and a refused one leaves it as it stood; its answer's
--- number is that of a byte.
+-- One datagram of a burst: an accepted call leaves the session settled (`StaysSound`), and a refused one leaves it as it stood, and its
+-- number is below 255.
 use mathlib.Core.Path.{◌≡◌, refl, sym, ap, subst, ◌∙◌}
 use mathlib.Core.Logic.{◌⊎◌, inl, inr, ⊎_elim}
 use mathlib.Core.Bool.{Bool, true, false, cond}
 use mathlib.Core.List.{List}
 use Prim.Native.Nat.{ℕ, ◌<◌}
 use native.Mathlib.Omega.{arith}
-use lib.Dec.{eqb}
+use lib.Dec.{eqb, lit<}
 use borrow.Author.Tests.{eqb-true}
-use Rattle.refusals.specs.Refusals.{TRUNCATED, VERSION, PADDING, payload_too_large, payload_type, SSRC, CLOCK, gaps_full, COUNT, SESSION, refuse_if, or_else}
+use Rattle.std.specs.Prelude.{Result, Ok, Err}
+use Rattle.refusals.specs.declared.Refusal.{Refusal}
+use Rattle.refusals.specs.Refusals.{number, TRUNCATED, VERSION, PADDING, payload_too_large, payload_type, SSRC, CLOCK, gaps_full, COUNT, SESSION, refuse_if, or_else}
 use Rattle.rtp_packet.specs.Datagram.{datagram_refusal}
-use Rattle.model.specs.Rules.{waits}
-use Rattle.model.specs.Push.{media_entry_of, media_place}
 use Rattle.model.specs.Storage.{Stored, parse, write}
-use Rattle.model.specs.Calls.{Call, Answer, media, refused, queued, dropped, placed_answer, answered, taken}
+use Rattle.model.specs.Calls.{Call, Answer, media, refused, queued, dropped, taken}
 use Rattle.model.specs.Table.{refusal, call_refusal, media_refusal, packet_refusal, count_refusal, clock_refusal, session_sound, session_refusal}
-use Rattle.model.specs.Did.{Done, did, accepted, turned_back}
+use Rattle.model.specs.Did.{Done, did, turned_back}
 use Rattle.model.specs.Contract.{Does}
 use Rattle.model.proofs.Laid.{parse-write}
 use Rattle.model.proofs.SoundCalls.{payloads-fit, left-sound, did-taken, stays-sound}
 use Rattle.storage.specs.Settled as storage
 use Rattle.storage.proofs.Settled.{passed_16}
-use Rattle.push.specs.declared.MediaAnswer.{MediaAnswer}
+use Rattle.push.specs.declared.Media.{Media}
 use Rattle.push.specs.Answers.{media_answer}
-use Rattle.burst.specs.Burst.{answer_number}
 use Rattle.burst.specs.declared.Standing.{Standing}
 use Rattle.burst.specs.Standing.{Stands, after_sound}
 
@@ -51,24 +50,20 @@ module _ (k : Call) (m m2 : Stored) (a : Answer) (out : List ℕ) (e : Does k m 
   pub settled_next : storage.Settled m → storage.Settled m2
   settled_next h = ⊎_elim (λ s. s) (λ r. subst storage.Settled (sym r.0) h) left
 
-pub sound_next : (k : Call) (m m2 : Stored) (a : MediaAnswer) (out : List ℕ) → Does k m (media_answer a) m2 out → session_sound m ≡ true → Stands (after_sound a) m2
-unfolding Stands after_sound media_answer
-sound_next k m m2 MediaAnswer.Queued out e h = ⊎_elim (λ s. s) (λ r. absurd (apart (let d = r.1 in cc))) (left k m m2 queued out e)
-sound_next k m m2 MediaAnswer.Dropped out e h = ⊎_elim (λ s. s) (λ r. absurd (apart (let d = r.1 in cc))) (left k m m2 dropped out e)
-sound_next k m m2 (MediaAnswer.Refused n) out e h = ⊎_elim (λ s. s.sound) (λ r. ap session_sound r.0 ∙ h) (left k m m2 (refused n) out e)
+pub sound_next : (k : Call) (m m2 : Stored) (a : Result Media Refusal) (out : List ℕ) → Does k m (media_answer a) m2 out → session_sound m ≡ true → Stands (after_sound a) m2
+unfolding Stands
+sound_next k m m2 (Ok Media.Queued) out e h = ⊎_elim (λ s. s) (λ r. absurd (apart (let d = r.1 in cc))) (left k m m2 queued out e)
+sound_next k m m2 (Ok Media.Dropped) out e h = ⊎_elim (λ s. s) (λ r. absurd (apart (let d = r.1 in cc))) (left k m m2 dropped out e)
+sound_next k m m2 (Err n) out e h = ⊎_elim (λ s. s.sound) (λ r. ap session_sound r.0 ∙ h) (left k m m2 (refused (number n)) out e)
 
 -- ---- how the session stands
 
 pub stands_as : (x y : Standing) (m : Stored) → x ≡ y → Stands y m → Stands x m
 stands_as x y m e h = subst (λ (z : Standing). Stands z m) (sym e) h
 
-pub damaged_is : (k : ℕ) (m : Stored) → k ≡ session_refusal m → (k ≡ 0 → ⊥) → session_refusal m ≡ SESSION
+pub damaged_is : (m : Stored) → session_sound m ≡ false → session_refusal m ≡ SESSION
 unfolding session_refusal refuse_if
-damaged_is k m e h = go (session_sound m) refl
-  where
-    go : (t : Bool) → session_sound m ≡ t → session_refusal m ≡ SESSION
-    go true z = absurd (h (e ∙ rw z))
-    go false z = rw z
+damaged_is m z = rw z
 
 -- ---- the answer's number is a byte
 
@@ -90,21 +85,8 @@ module _ (now : ℕ) (d : List ℕ) (m : Stored) where
   unfolding refusal call_refusal media_refusal session_refusal clock_refusal datagram_refusal packet_refusal count_refusal
   small-refusal =
       let one : (t : Bool) (k : ℕ) → k < 255 → refuse_if t k < 255 = small_if in
-      let later = small_or _ _ (one _ COUNT (omega arith)) (one _ gaps_full (omega arith)) in
-      let whole = small_or _ _ (one _ payload_type (omega arith)) (one _ SSRC (omega arith)) in
-      let sized = small_or _ _ (one _ PADDING (omega arith)) (small_or _ _ (one _ payload_too_large (omega arith)) whole) in
-      let read = small_or _ _ (one _ TRUNCATED (omega arith)) (small_or _ _ (one _ VERSION (omega arith)) (small_or _ _ (one _ TRUNCATED (omega arith)) sized)) in
-      small_or _ _ (one _ SESSION (omega arith)) (small_or _ _ (one _ CLOCK (omega arith)) (small_or _ _ read later))
-
-  small_placed : (t : Bool) → answer_number (cond t queued dropped) < 256
-  unfolding answer_number
-  small_placed true = omega arith
-  small_placed false = omega arith
-
-  pub number_small : answer_number (did (media now d) m).answer < 256
-  unfolding did accepted turned_back answered placed_answer answer_number
-  number_small = go (eqb (refusal (media now d) m) 0)
-    where
-      go : (t : Bool) → answer_number (cond t (accepted (media now d) (parse m)) (turned_back (refusal (media now d) m) (media now d) m)).answer < 256
-      go true = small_placed (waits (media_place (parse m) (media_entry_of now d (parse m).queue).number))
-      go false = omega (arith, small-refusal)
+      let later = small_or _ _ (one _ COUNT (lit< tt)) (one _ gaps_full (lit< tt)) in
+      let whole = small_or _ _ (one _ payload_type (lit< tt)) (one _ SSRC (lit< tt)) in
+      let sized = small_or _ _ (one _ PADDING (lit< tt)) (small_or _ _ (one _ payload_too_large (lit< tt)) whole) in
+      let read = small_or _ _ (one _ TRUNCATED (lit< tt)) (small_or _ _ (one _ VERSION (lit< tt)) (small_or _ _ (one _ TRUNCATED (lit< tt)) sized)) in
+      small_or _ _ (one _ SESSION (lit< tt)) (small_or _ _ (one _ CLOCK (lit< tt)) (small_or _ _ read later))

@@ -1,6 +1,7 @@
 -- 02, point 4, "A burst handed over together": the single media calls, one for each datagram, in that order, and their answers as numbers.
-use Rattle.std.specs.Prelude.{Bool, true, cond, ◌&&◌, ◌||◌, not, List, [], ◌∷◌, ℕ, eqb, leb, length}
+use Rattle.std.specs.Prelude.{Bool, true, cond, ◌&&◌, ◌||◌, not, List, [], ◌∷◌, ℕ, eqb, leb, length, Result, Ok, Err}
 use Rattle.words.specs.Words.{over}
+use Rattle.refusals.specs.declared.Refusal.{Refusal}
 use Rattle.refusals.specs.Refusals.{OUTPUT, refuse_if}
 use Rattle.rtp_packet.specs.Header.{between}
 use Rattle.model.specs.Storage.{Stored}
@@ -68,6 +69,11 @@ pub record BurstDone : Type 0 where
   pub stored : Stored
   -- the lent list of answers: "Answer places past the last datagram keep their bytes."
   pub output : List ℕ
+
+-- of what the call of the code answers
+abbrev pub written : Result ℕ Refusal → ℕ
+written (Ok n) = n
+written (Err e) = 0
 
 unfoldable pub did_burst : ℕ → (buffer ends output : List ℕ) → Stored → BurstDone
 did_burst now buffer ends output m =

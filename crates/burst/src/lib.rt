@@ -4,31 +4,24 @@
 #![tactic(auto)]
 
 ghost use Rattle.std.specs.Prelude.{◌≡◌, true, [], ◌≤◌, ◌<◌, length, take};
+ghost use Rattle.refusals.specs.Refusals.{refusal_of};
 ghost use Rattle.words.specs.Words.{over};
 ghost use Rattle.model.specs.Lists.{some?};
-ghost use Rattle.model.specs.Storage.{Stored};
 ghost use Rattle.model.specs.Calls.{media};
-ghost use Rattle.model.specs.Table.{session_refusal};
-ghost use Rattle.model.specs.Contract.{stored, before, after, Does};
+ghost use Rattle.model.specs.Contract.{Does};
+ghost use Rattle.storage.specs.Held.{held, SameSlices};
 ghost use Rattle.push.specs.Answers.{media_answer};
-ghost use Rattle.burst.specs.Burst.{datagrams, pushed, answer_number, is_accepted, answer_numbers, ends_fit, burst_refusal, did_burst};
+ghost use Rattle.burst.specs.Burst.{datagrams, pushed, answer_number, is_accepted, answer_numbers, ends_fit, burst_refusal, written, did_burst};
 ghost use Rattle.burst.specs.Standing.{Stands, after_sound};
 ghost use Rattle.burst.specs.Runs.{EveryRunWithBursts};
 
-use model::Session;
-use push::MediaAnswer;
+use push::Media;
+use refusals::Refusal;
+use storage::Held;
 
 // The answer number of a packet that is dropped.
+// Stays: the law gives this number; a list of answers is bytes, over the boundary too.
 const DROPPED: u8 = 255;
-
-#[derive(Clone, Copy)]
-pub struct PushedBurst {
-    // 15, or 0.
-    pub refusal: u64,
-    // How many answers were written.
-    pub answers: usize,
-    pub session: Session,
-}
 
 // How a session stands between two datagrams: check 16 catches it, or passes it, or zeros stand in its unused places too.
 #[derive(Clone, Copy)]
@@ -38,28 +31,19 @@ enum Standing {
     Settled,
 }
 
-// A session, and how it stands.
-#[derive(Clone, Copy)]
-struct Held {
-    session: Session,
-    standing: Standing,
-}
-
-// What a datagram was answered, and the session after it.
+// What a datagram was answered, and how the session stands after it.
 #[derive(Clone, Copy)]
 struct Stepped {
-    answer: MediaAnswer,
-    held: Held,
+    answer: Result<Media, Refusal>,
+    standing: Standing,
 }
 
 // Whether no end is below the one before it or past the buffer, of so many bytes.
 fn ends_fit(bytes: usize, ends: &[u64]) -> bool
     ensures { result ≡ ends_fit bytes 0 ends.now }
 {
-    let mut from: u64 = 0;
-    let mut i = 0;
-    while i < ends.len() {
-        let end = ends[i];
+    let mut from = 0;
+    for &end in ends {
         if end < from {
             return false;
         }
@@ -67,197 +51,141 @@ fn ends_fit(bytes: usize, ends: &[u64]) -> bool
             return false;
         }
         from = end;
-        i += 1;
     }
     true
 }
 
 // 15, for the whole call.
-fn burst_refusal(bytes: usize, ends: &[u64], places: usize) -> u64
-    ensures { result ≡ burst_refusal bytes ends.now places }
+#[tactic(auto, using(crate::proofs::Ends::no_ends, crate::proofs::Ends::no_places, crate::proofs::Ends::none_refused))]
+fn check_burst(bytes: usize, ends: &[u64], places: usize) -> Result<(), Refusal>
+    ensures { refusal_of result ≡ burst_refusal bytes ends.now places }
 {
     if !ends_fit(bytes, ends) {
-        return refusals::OUTPUT;
+        return Err(Refusal::Output);
     }
     if places < ends.len() {
-        return refusals::OUTPUT;
+        return Err(Refusal::Output);
     }
-    0
+    Ok(())
 }
 
 // 0 queued, 255 dropped, else the refusal.
-fn answer_number(answer: MediaAnswer) -> u8
-    requires { answer_number (media_answer answer) < 256 }
+// Stays: the law gives the numbers, and a byte of the list is not a `Media` that was converted.
+#[tactic(auto, unfolding(crate::specs::Burst::answer_number))]
+fn answer_number(answer: Result<Media, Refusal>) -> u8
     ensures { result ≡ answer_number (media_answer answer) }
 {
     match answer {
-        MediaAnswer::Queued => 0,
-        MediaAnswer::Dropped => DROPPED,
-        MediaAnswer::Refused(k) => k as u8,
+        Ok(Media::Queued) => 0,
+        Ok(Media::Dropped) => DROPPED,
+        Err(refusal) => refusal as u8,
     }
 }
 
-// By the number under which check 16 refuses, or 0.
-fn standing_of(damaged: u64) -> Standing
-    ensures { (m : Stored) → damaged ≡ session_refusal m → Stands result m }
+// By check 16.
+// Stays: it is told by a check, and no value is converted.
+#[tactic(auto, using(crate::proofs::Steps::damaged_is), unfolding(crate::specs::Standing::Stands))]
+fn standing_of(q: &Held) -> Standing
+    ensures { Stands result (held q.now) }
 {
-    if damaged != 0 {
+    if !q.session_sound() {
         return Standing::Damaged;
     }
     Standing::Sound
 }
 
-fn after_sound(answer: MediaAnswer) -> Standing
+fn after_sound(answer: Result<Media, Refusal>) -> Standing
     ensures { result ≡ after_sound answer }
 {
     match answer {
-        MediaAnswer::Queued => Standing::Settled,
-        MediaAnswer::Dropped => Standing::Settled,
-        MediaAnswer::Refused(_) => Standing::Sound,
+        Ok(_) => Standing::Settled,
+        Err(_) => Standing::Sound,
     }
 }
 
 // One datagram: the single media call, without the checks and the zeros that are behind the session already.
-fn push_next(
-    held: Held,
-    entries: &mut [u64],
-    payloads: &mut [u8],
-    gaps: &mut [u64],
-    remembered: &mut [u64],
-    instant: u64,
-    datagram: &[u8],
-) -> Stepped
-    requires { Stands held.standing (stored held.session entries.old payloads.old gaps.old remembered.old) }
-    ensures does { Does (media instant datagram.now) (before entries payloads gaps remembered held.session) (media_answer result.answer) (after entries payloads gaps remembered result.held.session) [] }
-    ensures stands { Stands result.held.standing (after entries payloads gaps remembered result.held.session) }
+// Stays: how the session stands is an enum, and the two functions are the steps of `push`.
+fn push_next(q: &mut Held, standing: Standing, instant: u64, datagram: &[u8]) -> Stepped
+    requires { Stands standing (held q.old) }
+    ensures same_slices { SameSlices q.old q.new }
+    ensures does { Does (media instant datagram.now) (held q.old) (media_answer result.answer) (held q.new) [] }
+    ensures stands { Stands result.standing (held q.new) }
 {
-    let session = held.session;
-    let standing = held.standing;
+    // Stays: an enum says which step.
     match standing {
         Standing::Damaged => Stepped {
-            answer: MediaAnswer::Refused(refusals::SESSION),
-            held,
+            answer: Err(Refusal::Session),
+            standing,
         },
         Standing::Sound => {
-            let done = push::push_checked(
-                session, entries, payloads, gaps, remembered, instant, datagram,
-            );
-            let answer = done.answer;
-            let session = done.session;
+            let answer = push::push_checked(q, instant, datagram);
             let standing = after_sound(answer);
-            let held = Held { session, standing };
-            Stepped { answer, held }
+            Stepped { answer, standing }
         }
         Standing::Settled => {
-            let done = push::push_settled(
-                session, entries, payloads, gaps, remembered, instant, datagram,
-            );
-            let answer = done.answer;
-            let session = done.session;
-            let held = Held { session, standing };
-            Stepped { answer, held }
+            let answer = push::push_settled(q, instant, datagram);
+            Stepped { answer, standing }
         }
     }
 }
 
 // The datagrams one after the other, each on what the one before left, with their answers.
 fn push_each(
-    first: Held,
-    entries: &mut [u64],
-    payloads: &mut [u8],
-    gaps: &mut [u64],
-    remembered: &mut [u64],
+    q: &mut Held,
+    first: Standing,
     instant: u64,
     buffer: &[u8],
     ends: &[u64],
     answers: &mut [u8],
-) -> Session
-    requires stands { Stands first.standing (stored first.session entries.old payloads.old gaps.old remembered.old) }
+)
+    requires stands { Stands first (held q.old) }
     requires ends_value { (ends_fit (length buffer.now) 0 ends.now ≡ true) × (length ends.now ≤ length answers.old) }
-    ensures result_value { after entries payloads gaps remembered result ≡ pushed instant (datagrams buffer.now ends.now) (before entries payloads gaps remembered first.session) }
-    ensures answers_after { answers.new ≡ over (answer_numbers instant (datagrams buffer.now ends.now) (before entries payloads gaps remembered first.session)) answers.old }
+    ensures same_slices { SameSlices q.old q.new }
+    ensures left { held q.new ≡ pushed instant (datagrams buffer.now ends.now) (held q.old) }
+    ensures answers_after { answers.new ≡ over (answer_numbers instant (datagrams buffer.now ends.now) (held q.old)) answers.old }
 {
-    let mut held = first;
+    let mut standing = first;
     let mut from = 0;
-    let mut i = 0;
-    while i < ends.len() {
-        let end = ends[i] as usize;
-        let done = push_next(
-            held,
-            entries,
-            payloads,
-            gaps,
-            remembered,
-            instant,
-            &buffer[from..end],
-        );
-        let answer = done.answer;
-        held = done.held;
-        answers[i] = answer_number(answer);
+    for (i, end) in ends.iter().enumerate() {
+        let end = *end as usize;
+        let done = push_next(q, standing, instant, &buffer[from..end]);
+        standing = done.standing;
+        answers[i] = answer_number(done.answer);
         from = end;
-        i += 1;
     }
-    held.session
 }
 
 // Media packets in datagrams that came together, at this instant: the first from byte 0 of the buffer to the first end, each further one from
-// there to the next. One answer number is written for each: 0 queued, 255 dropped, else the refusal.
+// there to the next. One answer number is written for each: 0 queued, 255 dropped, else the refusal. The result says how many were written.
 pub fn push_burst(
-    session: Session,
-    entries: &mut [u64],
-    payloads: &mut [u8],
-    gaps: &mut [u64],
-    remembered: &mut [u64],
+    q: &mut Held,
     now: u64,
     buffer: &[u8],
     ends: &[u64],
     answers: &mut [u8],
-) -> PushedBurst
-    ensures { did_burst now buffer.now ends.now answers.old (before entries payloads gaps remembered session) ≡ record { refusal = result.refusal; count = result.answers; stored = after entries payloads gaps remembered result.session; output = answers.new } }
+) -> Result<usize, Refusal>
+    ensures same_slices { SameSlices q.old q.new }
+    ensures does { did_burst now buffer.now ends.now answers.old (held q.old) ≡ record { refusal = refusal_of result; count = written result; stored = held q.new; output = answers.new } }
 {
-    let refusal = burst_refusal(buffer.len(), ends, answers.len());
-    if refusal != 0 {
-        return PushedBurst {
-            refusal,
-            answers: 0,
-            session,
-        };
-    }
-    let damaged = storage::session_refusal(session, entries, payloads, gaps, remembered);
-    let standing = standing_of(damaged);
-    let first = Held { session, standing };
-    let left = push_each(
-        first, entries, payloads, gaps, remembered, now, buffer, ends, answers,
-    );
-    PushedBurst {
-        refusal: 0,
-        answers: ends.len(),
-        session: left,
-    }
+    check_burst(buffer.len(), ends, answers.len())?;
+    let first = standing_of(q);
+    push_each(q, first, now, buffer, ends, answers);
+    Ok(ends.len())
 }
 
 // Whether one of the first n answers is no refusal.
+// Stays: the list is lent for the largest burst, and how much of it was written is the call's answer.
 pub fn any_accepted(answers: &[u8], n: usize) -> bool
     ensures { result ≡ some? is_accepted (take n answers.now) }
 {
-    let mut i = 0;
-    while i < n {
-        if answers.len() <= i {
-            return false;
-        }
-        let number = answers[i];
-        if number == 0 {
-            return true;
-        }
-        if number == DROPPED {
-            return true;
-        }
-        i += 1;
-    }
-    false
+    answers
+        .iter()
+        .take(n)
+        .any(|number| *number == 0 || *number == DROPPED)
 }
 
 // Demand 3 over lists of calls with bursts among them: a burst counts as its single media calls.
+#[tactic(auto, using(crate::proofs::Runs::every_run_with_bursts))]
 pub fn every_run_with_bursts()
     ensures { EveryRunWithBursts }
 {}

@@ -10,13 +10,12 @@ use borrow.Author.Tests.{lt-ltb, le-ltb, le-leb, ltb-true, ltb-false, leb-true, 
 use lib.Dec.{eqb, leb, ltb}
 use lib.ListN.{length, take, get_or, replicate, length-append, get_or-append}
 use lib.Seq.{take-suc, take_all, length-take-le, get_or-take}
-use Rattle.rtp.specs.declared.opt.Opt.{Opt}
-use Rattle.rtp.specs.declared.opt.Opt.TheVariants.{None, Some}
+use Rattle.std.specs.Prelude.{Option, None, Some}
 use Rattle.columns.specs.Columns.{decimal_up_to, justified_in, justified, with_digit, next_digit, digits_of, number_of, after_blanks, field_number, Writes, Inverse}
 
 -- ---- digits behind digits
 
-digits_snoc : (s : List ℕ) (b : ℕ) (o : Opt) → digits_of (s ++ (b ∷ [])) o ≡ next_digit (digits_of s o) b
+digits_snoc : (s : List ℕ) (b : ℕ) (o : Option ℕ) → digits_of (s ++ (b ∷ [])) o ≡ next_digit (digits_of s o) b
 unfolding digits_of
 digits_snoc [] b o = refl
 digits_snoc (a ∷ s) b o = digits_snoc s b (next_digit o a)
@@ -47,7 +46,7 @@ spelled (suc w) n p h k = go (spelled w (n / 10)) (ltb n 10) refl
         let t = tenth w n l h in
         let z : 10 * (n / 10) + n % 10 ≡ n = omega arith in
         digits_snoc (decimal_up_to w (n / 10)) (48 + n % 10) (Some 0)
-        ∙ ap (λ (o : Opt). next_digit o (48 + n % 10)) (ih t.0 t.1 (omega arith))
+        ∙ ap (λ (o : Option ℕ). next_digit o (48 + n % 10)) (ih t.0 t.1 (omega arith))
         ∙ one_more (n / 10) (n % 10) (omega arith) (omega arith)
         ∙ ap Some z
 
@@ -130,7 +129,7 @@ last_digit p b n e = go (digits_of p (Some 0)) refl (sym (digits_snoc p b (Some 
     test v f true false z i j k q = let z : ◌≡◌ {A = ℕ} 0 1 = cc in absurd (omega arith)
     test v f false y z i j k q = let z : ◌≡◌ {A = ℕ} 0 1 = cc in absurd (omega arith)
 
-    go : (o : Opt) → digits_of p (Some 0) ≡ o → next_digit o b ≡ Some n → Last p b n
+    go : (o : Option ℕ) → digits_of p (Some 0) ≡ o → next_digit o b ≡ Some n → Last p b n
     go None f q = let z : ◌≡◌ {A = ℕ} 0 1 = cc in absurd (omega arith)
     go (Some v) f q = test v f (leb 48 b) (leb b 57) (ltb (10 * v + (b - 48)) (2 ^ 64)) refl refl refl q
 

@@ -1,17 +1,17 @@
 -- Digits one by one: the first of those left goes behind the number read so far, and after something else nothing is a number. Blanks
--- one by one: what follows them stays.
-use mathlib.Core.Path.{◌≡◌, refl}
-use mathlib.Core.Bool.{Bool, true, false, ◌&&◌}
+-- at the front: what follows them stays.
+use mathlib.Core.Path.{◌≡◌, refl, ap, ◌∙◌}
+use mathlib.Core.Bool.{Bool, true, false, cond}
 use mathlib.Core.List.{List, [], ◌∷◌}
-use Prim.Native.Nat.{ℕ, ◌+◌, ◌≤◌, ◌<◌}
+use Prim.Native.Nat.{ℕ, suc, ◌+◌, ◌≤◌, ◌<◌}
 use native.Mathlib.Numerals.{add-one}
 use native.Mathlib.Omega.{arith}
-use borrow.Author.Tests.{eq-eqb, ne_eqb, lt-ltb, le-ltb, ltb-true, ltb-false}
-use lib.Dec.{eqb, ltb}
+use lib.Dec.{eqb}
 use lib.ListN.{length, drop, get_or, drop_of_length-le}
 use lib.Seq.{drop-cons}
-use Rattle.rtp.specs.declared.opt.Opt.TheVariants.{None, Some}
-use Rattle.columns.specs.Columns.{with_digit, next_digit, digits_of, number_of, after_blanks}
+use Rattle.std.specs.Prelude.{None, Some}
+use Rattle.std.specs.List.{prefix_len}
+use Rattle.columns.specs.Columns.{with_digit, next_digit, digits_of, after_blanks}
 
 pub digits-none : (s : List ℕ) → digits_of s None ≡ None
 unfolding digits_of next_digit
@@ -26,35 +26,18 @@ pub digits-end : (s : List ℕ) (i v : ℕ) → length s ≤ i → digits_of (dr
 unfolding digits_of
 digits-end s i v h = rw (drop_of_length-le s h)
 
-module _ (s : List ℕ) (i : ℕ) where
-  pub blank_passed : i < length s → get_or s i 0 ≡ 32 → after_blanks (drop i s) ≡ after_blanks (drop (i + 1) s)
-  unfolding after_blanks
-  blank_passed h e = rw (add-one, drop-cons s i 0, eq-eqb (get_or s i 0) 32 e)
+-- what the check of `digits` needs
+pub ruleset reading = (digits-none, digits_step, digits-end)
 
-  pub blank_none : i < length s → (get_or s i 0 ≡ 32 → ⊥) → drop i s ≡ after_blanks (drop i s)
-  unfolding after_blanks
-  blank_none h e = rw (drop-cons s i 0, ne_eqb (get_or s i 0) 32 e)
+-- as many as the library's `take_while` passes
+passed : (s : List ℕ) → (prefix_len (λ b. eqb b 32) s ≤ length s) × (drop (prefix_len (λ b. eqb b 32) s) s ≡ after_blanks s)
+unfolding after_blanks
+passed [] = (omega arith, refl)
+passed (b ∷ s) = go (prefix_len (λ b. eqb b 32) s) (passed s) (eqb b 32)
+  where
+    go : (k : ℕ) → (k ≤ length s) × (drop k s ≡ after_blanks s) → (t : Bool) → (cond t (1 + k) 0 ≤ suc (length s)) × (drop (cond t (1 + k) 0) (b ∷ s) ≡ cond t (after_blanks s) (b ∷ s))
+    go k ih true = let e : 1 + k ≡ suc k = omega arith in (omega (arith, ih.0), ap (λ (n : ℕ). drop n (b ∷ s)) e ∙ ih.1)
+    go k ih false = (omega arith, refl)
 
-  pub blank_end : length s ≤ i → drop i s ≡ after_blanks (drop i s)
-  unfolding after_blanks
-  blank_end h = rw (drop_of_length-le s h)
-
--- the test for a zero before another digit, with the number k that the code has in it
-module _ (s : List ℕ) (k : ℕ) (some : 0 < length s) where
-  pub zero-first : 1 ≤ k → (eqb (get_or s 0 0) 48 && ltb k (length s)) ≡ true → None ≡ number_of s
-  unfolding number_of
-  zero-first h e = go (eqb (get_or s 0 0) 48) (ltb k (length s)) refl refl e
-    where
-      go : (a b : Bool) → eqb (get_or s 0 0) 48 ≡ a → ltb k (length s) ≡ b → (a && b) ≡ true → None ≡ number_of s
-      go true true p q e = rw (ne_eqb (length s) 0 (λ z. omega arith), p, lt-ltb 1 (length s) (omega (arith, ltb-true k (length s) q)))
-      go true false p q e = absurd (let z : ◌≡◌ {A = ℕ} 0 1 = cc in omega arith)
-      go false b p q e = absurd (let z : ◌≡◌ {A = ℕ} 0 1 = cc in omega arith)
-
-  pub no_zero-first : k ≤ 1 → (eqb (get_or s 0 0) 48 && ltb k (length s)) ≡ false → digits_of s (Some 0) ≡ number_of s
-  unfolding number_of
-  no_zero-first h e = go (eqb (get_or s 0 0) 48) (ltb k (length s)) refl refl e
-    where
-      go : (a b : Bool) → eqb (get_or s 0 0) 48 ≡ a → ltb k (length s) ≡ b → (a && b) ≡ false → digits_of s (Some 0) ≡ number_of s
-      go true true p q e = absurd (let z : ◌≡◌ {A = ℕ} 0 1 = cc in omega arith)
-      go true false p q e = rw (ne_eqb (length s) 0 (λ z. omega arith), p, le-ltb 1 (length s) (omega (arith, ltb-false k (length s) q)))
-      go false b p q e = rw (ne_eqb (length s) 0 (λ z. omega arith), p)
+pub blanks_dropped : (s : List ℕ) (k : ℕ) → k ≡ prefix_len (λ b. eqb b 32) s → (k ≤ length s) × (drop k s ≡ after_blanks s)
+blanks_dropped s k e = rw e (passed s)

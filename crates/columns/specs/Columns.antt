@@ -1,7 +1,5 @@
 -- Numbers in fields of w columns, "decimal, right-justified after blanks" (requests 10 and 13), both ways.
-use Rattle.std.specs.Prelude.{cond, ◌&&◌, ◌||◌, List, [], ◌∷◌, ◌++◌, ℕ, zero, suc, ◌+◌, ◌*◌, ◌-◌, ◌/◌, ◌%◌, ◌^◌, ◌<◌, ◌≡◌, eqb, leb, ltb, length, get_or, replicate}
-use Rattle.rtp.specs.declared.opt.Opt.{Opt}
-use Rattle.rtp.specs.declared.opt.Opt.TheVariants.{None, Some}
+use Rattle.std.specs.Prelude.{cond, ◌&&◌, ◌||◌, List, [], ◌∷◌, ◌++◌, ℕ, zero, suc, ◌+◌, ◌*◌, ◌-◌, ◌/◌, ◌%◌, ◌^◌, ◌<◌, ◌≡◌, eqb, leb, ltb, length, get_or, replicate, Option, None, Some}
 
 -- ---- written
 
@@ -20,22 +18,22 @@ justified w n = justified_in w (decimal_up_to w n)
 -- ---- read
 
 -- the number whose digits are those of v and the character b behind them, at most 2^64 − 1
-unfoldable pub with_digit : ℕ → ℕ → Opt
+unfoldable pub with_digit : ℕ → ℕ → Option ℕ
 with_digit v b = cond (leb 48 b && (leb b 57 && ltb (10 * v + (b - 48)) (2 ^ 64))) (Some (10 * v + (b - 48))) None
 
-unfoldable pub next_digit : Opt → ℕ → Opt
+unfoldable pub next_digit : Option ℕ → ℕ → Option ℕ
 unfolding with_digit
 next_digit None b = None
 next_digit (Some v) b = with_digit v b
 
 -- a number, and each of these characters behind its digits
-unfoldable pub digits_of : List ℕ → Opt → Opt
+unfoldable pub digits_of : List ℕ → Option ℕ → Option ℕ
 unfolding next_digit
 digits_of [] o = o
 digits_of (b ∷ bs) o = digits_of bs (next_digit o b)
 
 -- "at least one digit", no "leading zero before another digit"
-unfoldable pub number_of : List ℕ → Opt
+unfoldable pub number_of : List ℕ → Option ℕ
 unfolding digits_of
 number_of s = cond (eqb (length s) 0 || (eqb (get_or s 0 0) 48 && ltb 1 (length s))) None (digits_of s (Some 0))
 
@@ -45,7 +43,7 @@ after_blanks [] = []
 after_blanks (b ∷ s) = cond (eqb b 32) (after_blanks s) (b ∷ s)
 
 -- the number that a field is: "blanks, if any, followed by at least one digit"
-unfoldable pub field_number : List ℕ → Opt
+unfoldable pub field_number : List ℕ → Option ℕ
 unfolding after_blanks number_of
 field_number s = number_of (after_blanks s)
 

@@ -2,22 +2,19 @@
 // is the part's length, and no function here is for one width.
 #![tactic(auto)]
 
-ghost use Rattle.std.specs.Prelude.{◌≡◌, List, ℕ, ◌+◌, ◌%◌, ◌≤◌, length, drop};
+ghost use Rattle.std.specs.Prelude.{◌≡◌, List, ℕ, ◌+◌, ◌%◌, ◌≤◌, length, drop, Some};
 ghost use Rattle.words.specs.Words.{written};
 ghost use Rattle.columns.specs.Columns.{justified, with_digit, digits_of, number_of, after_blanks, field_number, Inverse};
 ghost use Rattle.columns.specs.Filled.{column_of};
-ghost use Rattle.rtp.specs.declared.opt.Opt.TheVariants.{Some};
 
-use rtp::opt::Opt;
-
-const BLANK: u8 = 32;
+const BLANK: u8 = b' ';
 
 // ---- written
 
 fn glyph(n: u64) -> u8
     ensures { result ≡ 48 + n % 10 }
 {
-    48 + (n % 10) as u8
+    b'0' + (n % 10) as u8
 }
 
 // The character of a column before the last: a blank where no digit is left.
@@ -28,17 +25,18 @@ fn column(rest: u64) -> u8
 }
 
 // Puts n into a field; of a number that the field does not hold, the last digits.
+#[tactic(auto, using(crate::proofs::Filling::filled))]
 pub fn write(field: &mut [u8], n: u64)
     ensures { field.new ≡ justified (length field.old) n }
 {
-    if field.len() == 0 {
+    if field.is_empty() {
         return;
     }
-    let mut i = field.len() - 1;
-    field[i] = glyph(n);
+    let last = field.len() - 1;
+    field[last] = glyph(n);
     let mut rest = n / 10;
-    while 0 < i {
-        i -= 1;
+    // Stays: each column hangs on what the one behind it left, which a chain of iterators would have to carry.
+    for i in (0..last).rev() {
         field[i] = column(rest);
         rest /= 10;
     }
@@ -59,72 +57,45 @@ pub fn write_at(page: &mut [u8], at: usize, width: usize, n: u64)
 fn blanks(field: &[u8]) -> usize
     ensures { (result ≤ length field.now) × (drop result field.now ≡ after_blanks field.now) }
 {
-    let mut i = 0;
-    while i < field.len() {
-        if field[i] != BLANK {
-            return i;
-        }
-        i += 1;
-    }
-    i
-}
-
-fn wide(x: u8) -> u64
-    ensures { result ≡ x }
-{
-    x as u64
+    field.iter().take_while(|&&b| b == BLANK).count()
 }
 
 // The number whose digits are those of `value` and b behind them.
-fn with_digit(value: u64, b: u8) -> Opt
+#[tactic(auto, unfolding(crate::specs::Columns::with_digit))]
+fn with_digit(value: u64, b: u8) -> Option<u64>
     ensures { result ≡ with_digit value b }
 {
-    if b < 48 {
-        return Opt::None;
+    if !b.is_ascii_digit() {
+        return None;
     }
-    if 57 < b {
-        return Opt::None;
-    }
-    if 1844674407370955161 < value {
-        return Opt::None;
-    }
-    let digit = wide(b - 48);
-    if 18446744073709551615 - 10 * value < digit {
-        return Opt::None;
-    }
-    Opt::Some(10 * value + digit)
+    value.checked_mul(10)?.checked_add(u64::from(b - b'0'))
 }
 
-fn digits(s: &[u8]) -> Opt
+#[tactic(auto, using(crate::proofs::Reading::reading))]
+fn digits(s: &[u8]) -> Option<u64>
     ensures { result ≡ digits_of s.now (Some 0) }
 {
     let mut value = 0u64;
-    let mut i = 0;
-    while i < s.len() {
-        let Opt::Some(v) = with_digit(value, s[i]) else {
-            return Opt::None;
-        };
-        value = v;
-        i += 1;
+    for &b in s {
+        value = with_digit(value, b)?;
     }
-    Opt::Some(value)
+    Some(value)
 }
 
 // The number that digits alone are: a field without columns, as in a trace.
-pub fn number(s: &[u8]) -> Opt
+#[tactic(auto, unfolding(crate::specs::Columns::number_of))]
+pub fn number(s: &[u8]) -> Option<u64>
     ensures { result ≡ number_of s.now }
 {
-    if s.len() == 0 {
-        return Opt::None;
+    match s {
+        [] | [b'0', _, ..] => None,
+        _ => digits(s),
     }
-    if (s[0] == 48) & (1 < s.len()) {
-        return Opt::None;
-    }
-    digits(s)
 }
 
 // The number that a field is, or none.
-pub fn read(field: &[u8]) -> Opt
+#[tactic(auto, unfolding(crate::specs::Columns::field_number))]
+pub fn read(field: &[u8]) -> Option<u64>
     ensures { result ≡ field_number field.now }
 {
     let first = blanks(field);
@@ -134,6 +105,7 @@ pub fn read(field: &[u8]) -> Opt
 // ---- both ways
 
 // What is written is read back, and only what would be written is read, at every width.
+#[tactic(auto, using(crate::proofs::Both::inverse))]
 pub fn read_is_inverse()
     ensures { (s : List ℕ) (n : ℕ) → Inverse s n }
 {}

@@ -1,7 +1,7 @@
 -- The delay of a dynamic queue: what repairs ask for fits a word, and the delay is from min to max and grows with the loss.
 use mathlib.Core.Path.{◌≡◌, refl, subst}
 use mathlib.Core.Bool.{Bool, true, false, cond, ◌&&◌}
-use Prim.Native.Nat.{ℕ, ◌*◌, ◌^◌, ◌≤◌, ◌<◌}
+use Prim.Native.Nat.{ℕ, max, min, ◌*◌, ◌^◌, ◌≤◌, ◌<◌}
 use native.Mathlib.Nat.{le_refl, le_trans, mul-le-mul, mul-le-mul_right}
 use native.Mathlib.Omega.{arith}
 use borrow.Author.Tests.{ltb-true, ltb-false}
@@ -11,12 +11,13 @@ use lib.Ieee.Fits.{and_l, and_r}
 use Rattle.jitter.specs.declared.Jitter.{Jitter}
 use Rattle.packet_loss.specs.Loss.{loss_in_range}
 use Rattle.packet_loss.specs.declared.PacketLoss.{PacketLoss}
-use Rattle.rtx_state.specs.RoundTrip.{larger, nack_resend_delay}
-use Rattle.rtx_state.specs.declared.OptRtt.{OptRtt}
-use Rattle.rtx_state.specs.declared.OptRtt.TheVariants.{None, Some}
+use Rattle.rtx_state.specs.RoundTrip.{nack_resend_delay, rtt_in_range}
+use Rattle.rtx_state.specs.declared.RtxRtt.{RtxRtt}
+use Rattle.rtx_state.proofs.Range.{delay-lt}
+use Rattle.std.specs.Prelude.{Option, None, Some}
 use Rattle.nack_attempts.specs.Attempts.{loss_of, attempts_of}
 use Rattle.nack_attempts.proofs.Bits.{loss-grows}
-use Rattle.nack_attempts.proofs.Powers.{attempts_grow}
+use Rattle.nack_attempts.proofs.Powers.{attempts_grow, attempts_most}
 use Rattle.config.specs.declared.RtpInboundStreamDynamicConfig.{RtpInboundStreamDynamicConfig}
 use Rattle.config.specs.declared.RtpInboundStreamSortedQueueMode.TheVariants.{Fixed, Dynamic}
 use Rattle.config.specs.declared.RtpInboundQueueMode.{RtpInboundQueueMode}
@@ -27,10 +28,24 @@ use Rattle.config.specs.Delay.{clamp, jitter_delay, nack_delay, with_repairs, dy
 use Rattle.config.proofs.Facts.{usable}
 
 -- ---- what repairs ask for fits a word: a resend delay is below 2 ^ 54, and there are at most four attempts
-pub product_lt : (r n : ℕ) → r < 2 ^ 54 → n ≤ 4 → r * n < 2 ^ 57
+product_lt : (r n : ℕ) → r < 2 ^ 54 → n ≤ 4 → r * n < 2 ^ 57
 product_lt r n h k = let p : r * n ≤ 18014398509481983 * 4 = mul-le-mul {n₁ = r} {n₂ = 18014398509481983} (omega arith) k in omega arith
 
+pub repairs_lt : (e : RtxRtt) (k t most : ℕ) → T (rtt_in_range e) → 1 ≤ most → most ≤ 4 → nack_resend_delay e * attempts_of k t most < 2 ^ 57
+repairs_lt e k t most h l m = product_lt (nack_resend_delay e) (attempts_of k t most) (delay-lt e h) (le_trans (attempts_most k t most l) m)
+
 -- ---- from min to max
+
+-- the library's `clamp`
+pub clamp_is : (low high n : ℕ) → low ≤ high → max low (min n high) ≡ clamp low high n
+unfolding clamp
+clamp_is low high n h = go (ltb n low) (ltb high n) refl refl
+  where
+    go : (a b : Bool) → ltb n low ≡ a → ltb high n ≡ b → max low (min n high) ≡ cond a low (cond b high n)
+    go true b e f = omega (arith, ltb-true n low e)
+    go false true e f = omega (arith, ltb-true high n f)
+    go false false e f = omega (arith, ltb-false n low e, ltb-false high n f)
+
 clamp-within : (low high n : ℕ) → low ≤ high → (low ≤ clamp low high n) × (clamp low high n ≤ high)
 unfolding clamp
 clamp-within low high n h = go (ltb n low) (ltb high n) refl refl
@@ -65,12 +80,12 @@ module _ (s : Settings) (d : RtpInboundStreamDynamicConfig) (e : s.mode ≡ Sort
   unfolding most_attempts
   few = subst (λ (m : RtpInboundQueueMode). s.max_nack_attempts ≤ most_attempts m) e (usable s v).attempts
 
-  pub within : (j : Jitter) (p : PacketLoss) (rtt : OptRtt) → (d.min ≤ target_delay s j p rtt) × (target_delay s j p rtt ≤ d.max)
+  pub within : (j : Jitter) (p : PacketLoss) (rtt : Option RtxRtt) → (d.min ≤ target_delay s j p rtt) × (target_delay s j p rtt ≤ d.max)
   unfolding delay_in dynamic_delay
   within j p rtt = rw e (clamp-within d.min d.max (with_repairs d.target_recovery s.max_nack_attempts p rtt (jitter_delay j)) own.ordered)
 
 -- in every mode a minute at most
-pub delay-le : (s : Settings) (j : Jitter) (p : PacketLoss) (rtt : OptRtt) → T (settings_valid s) → target_delay s j p rtt ≤ longest
+pub delay-le : (s : Settings) (j : Jitter) (p : PacketLoss) (rtt : Option RtxRtt) → T (settings_valid s) → target_delay s j p rtt ≤ longest
 unfolding delay_in
 delay-le s j p rtt v = go s.mode refl
   where
@@ -80,15 +95,8 @@ delay-le s j p rtt v = go s.mode refl
     go (SortedQueue (Dynamic d)) e = subst (λ (m : RtpInboundQueueMode). delay_in m s j p rtt ≤ longest) e (le_trans (within s d e v j p rtt).1 (own s d e v).most)
 
 -- ---- no less for more loss
-larger_mono : (a b c : ℕ) → b ≤ c → larger a b ≤ larger a c
-unfolding larger
-larger_mono a b c h = go (ltb a b) (ltb a c) refl refl
-  where
-    go : (x y : Bool) → ltb a b ≡ x → ltb a c ≡ y → cond x b a ≤ cond y c a
-    go true true e f = h
-    go true false e f = omega (arith, ltb-true a b e, ltb-false a c f)
-    go false true e f = omega (arith, ltb-true a c f)
-    go false false e f = omega arith
+max_mono : (a b c : ℕ) → b ≤ c → max a b ≤ max a c
+max_mono a b c h = omega arith
 
 clamp_mono : (low high a b : ℕ) → low ≤ high → a ≤ b → clamp low high a ≤ clamp low high b
 unfolding clamp
@@ -105,14 +113,14 @@ clamp_mono low high a b o h = go (ltb a low) (ltb high a) (ltb b low) (ltb high 
     go false false false false e f g k = h
 
 module _ (j : Jitter) (p q : PacketLoss) (P : T (loss_in_range p)) (Q : T (loss_in_range q)) (h : T (le p.loss q.loss)) where
-  repairs_grow : (target most : ℕ) (rtt : OptRtt) (delay : ℕ) → with_repairs target most p rtt delay ≤ with_repairs target most q rtt delay
+  repairs_grow : (target most : ℕ) (rtt : Option RtxRtt) (delay : ℕ) → with_repairs target most p rtt delay ≤ with_repairs target most q rtt delay
   unfolding with_repairs nack_delay
   repairs_grow target most None delay = le_refl delay
   repairs_grow target most (Some e) delay =
       let n : attempts_of (loss_of p.loss) target most ≤ attempts_of (loss_of q.loss) target most = attempts_grow (loss_of p.loss) (loss_of q.loss) target most (loss-grows p q P Q h) in
-      larger_mono delay _ _ (mul-le-mul_right 2 (mul-le-mul (le_refl (nack_resend_delay e)) n))
+      max_mono delay _ _ (mul-le-mul_right 2 (mul-le-mul (le_refl (nack_resend_delay e)) n))
 
-  pub grows : (s : Settings) (rtt : OptRtt) → T (settings_valid s) → target_delay s j p rtt ≤ target_delay s j q rtt
+  pub grows : (s : Settings) (rtt : Option RtxRtt) → T (settings_valid s) → target_delay s j p rtt ≤ target_delay s j q rtt
   unfolding delay_in dynamic_delay
   grows s rtt v = go s.mode refl
     where

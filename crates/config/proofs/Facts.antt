@@ -5,8 +5,8 @@ use native.Mathlib.Omega.{arith}
 use lib.Dec.{T, leb, leb→le}
 use lib.Ieee.Fits.{and_l, and_r}
 use Rattle.rtx_state.specs.RoundTrip.{opt_rtt_in_range}
-use Rattle.rtx_state.specs.declared.OptRtt.{OptRtt}
-use Rattle.rtx_state.specs.declared.OptRtt.TheVariants.{None, Some}
+use Rattle.rtx_state.specs.declared.RtxRtt.{RtxRtt}
+use Rattle.std.specs.Prelude.{Option, None, Some}
 use Rattle.rtx_state.proofs.Range.{delay-lt}
 use Rattle.config.specs.Timings.{resend_delay_of}
 use Rattle.config.specs.Valid.{within, longest, most_attempts, mode_valid, settings_valid}
@@ -72,7 +72,7 @@ usable s t =
       mode = p.7;
     }
 
-pub resend-lt : (s : Settings) (rtt : OptRtt) → s.default_nack_resend_delay ≤ longest → T (opt_rtt_in_range rtt) → resend_delay_of s rtt < 2 ^ 54
+pub resend-lt : (s : Settings) (rtt : Option RtxRtt) → s.default_nack_resend_delay ≤ longest → T (opt_rtt_in_range rtt) → resend_delay_of s rtt < 2 ^ 54
 unfolding resend_delay_of opt_rtt_in_range
 resend-lt s None d h = omega arith
 resend-lt s (Some e) d h = delay-lt e h

@@ -7,13 +7,13 @@ ghost use Rattle.rtx_state.specs.RoundTrip.{opt_rtt_in_range};
 ghost use Rattle.config.specs.Timings.{nack_timings};
 ghost use Rattle.config.specs.Delay.{target_delay};
 ghost use Rattle.config.specs.Claims.{DelayLaws, NeverRefused};
-ghost use Rattle.config.specs.Mode.{mode_of, mode_number, no_dynamic, dynamic_of};
+ghost use Rattle.config.specs.Mode.{mode_of, mode_number, dynamic_of};
 ghost use Rattle.config.specs.Valid.{depth_valid, gaps_valid, most_attempts, mode_valid, dynamic_valid, settings_valid, senders_valid};
 
 use jitter::Jitter;
 use packet_loss::PacketLoss;
 use rtp::Ssrc;
-use rtx_state::OptRtt;
+use rtx_state::RtxRtt;
 
 mod dynamic;
 
@@ -61,7 +61,7 @@ pub enum RtpInboundStreamSortedQueueMode {
 }
 
 // Durations are nanoseconds.
-#[derive(Clone, Copy)]
+#[derive(Clone, Copy, Default)]
 pub struct RtpInboundStreamDynamicConfig {
     pub min: u64,
     pub max: u64,
@@ -88,6 +88,7 @@ pub struct Settings {
 }
 
 // Whose packets the session takes.
+// Stays: the law checks `rtx_pt` also in a session without RTX, so it is there either way.
 #[derive(Clone, Copy)]
 pub struct Senders {
     pub pt: u8,
@@ -104,25 +105,15 @@ pub struct NackTimings {
 }
 
 // The mode that a trace or a word at the boundary names by 0, 1 or 2, with what mode 2 alone has; the reader of either refuses another number.
+// Stays: of two parameters, and total: the reader of a trace or a word refuses another number before.
+#[tactic(auto, unfolding(crate::specs::Mode::mode_of))]
 pub fn mode_of(number: u64, dynamic: RtpInboundStreamDynamicConfig) -> RtpInboundQueueMode
     ensures { result ≡ mode_of number dynamic }
 {
-    if number == 0 {
-        return RtpInboundQueueMode::Passthrough;
-    }
-    if number == 1 {
-        return RtpInboundQueueMode::SortedQueue(RtpInboundStreamSortedQueueMode::Fixed);
-    }
-    RtpInboundQueueMode::SortedQueue(RtpInboundStreamSortedQueueMode::Dynamic(dynamic))
-}
-
-fn no_dynamic() -> RtpInboundStreamDynamicConfig
-    ensures { result ≡ no_dynamic }
-{
-    RtpInboundStreamDynamicConfig {
-        min: 0,
-        max: 0,
-        target_recovery: 0,
+    match number {
+        0 => RtpInboundQueueMode::Passthrough,
+        1 => RtpInboundQueueMode::SortedQueue(RtpInboundStreamSortedQueueMode::Fixed),
+        _ => RtpInboundQueueMode::SortedQueue(RtpInboundStreamSortedQueueMode::Dynamic(dynamic)),
     }
 }
 
@@ -130,18 +121,19 @@ fn no_dynamic() -> RtpInboundStreamDynamicConfig
 pub fn depth_valid(depth: usize) -> bool
     ensures { result ≡ depth_valid depth }
 {
-    (1 <= depth) & (depth <= MAX_DEPTH)
+    (1..=MAX_DEPTH).contains(&depth)
 }
 
 // "G outside 999 to 4,096" is refused.
 pub fn gaps_valid(gaps: usize) -> bool
     ensures { result ≡ gaps_valid gaps }
 {
-    (MIN_GAPS <= gaps) & (gaps <= MAX_GAPS)
+    (MIN_GAPS..=MAX_GAPS).contains(&gaps)
 }
 
 impl RtpInboundStreamDynamicConfig {
     // A min within max is within the longest duration too.
+    #[tactic(auto, unfolding(crate::specs::Valid::dynamic_valid))]
     fn is_valid(self) -> bool
         ensures { result ≡ dynamic_valid self }
     {
@@ -153,63 +145,60 @@ impl RtpInboundStreamDynamicConfig {
 
 impl RtpInboundQueueMode {
     // What `mode_of` reads.
+    // Stays: two enums within one another, of which the second has fields; an `as` takes neither.
+    #[tactic(auto, unfolding(crate::specs::Mode::mode_number))]
     pub fn number(self) -> u32
         ensures { result ≡ mode_number self }
     {
         match self {
             RtpInboundQueueMode::Passthrough => 0,
-            RtpInboundQueueMode::SortedQueue(sorted) => match sorted {
-                RtpInboundStreamSortedQueueMode::Fixed => 1,
-                RtpInboundStreamSortedQueueMode::Dynamic(_) => 2,
-            },
+            RtpInboundQueueMode::SortedQueue(RtpInboundStreamSortedQueueMode::Fixed) => 1,
+            RtpInboundQueueMode::SortedQueue(RtpInboundStreamSortedQueueMode::Dynamic(_)) => 2,
         }
     }
 
     // What a dynamic delay has, and zeros in another mode.
+    #[tactic(auto, unfolding(crate::specs::Mode::dynamic_of, crate::specs::Mode::no_dynamic))]
     pub fn dynamic(self) -> RtpInboundStreamDynamicConfig
         ensures { result ≡ dynamic_of self }
     {
         match self {
-            RtpInboundQueueMode::Passthrough => no_dynamic(),
-            RtpInboundQueueMode::SortedQueue(sorted) => match sorted {
-                RtpInboundStreamSortedQueueMode::Fixed => no_dynamic(),
-                RtpInboundStreamSortedQueueMode::Dynamic(d) => d,
-            },
+            RtpInboundQueueMode::SortedQueue(RtpInboundStreamSortedQueueMode::Dynamic(d)) => d,
+            _ => RtpInboundStreamDynamicConfig::default(),
         }
     }
 
+    #[tactic(auto, unfolding(crate::specs::Valid::most_attempts))]
     fn max_attempts(self) -> u32
         ensures { result ≡ most_attempts self }
     {
         match self {
-            RtpInboundQueueMode::Passthrough => MAX_ATTEMPTS,
-            RtpInboundQueueMode::SortedQueue(sorted) => match sorted {
-                RtpInboundStreamSortedQueueMode::Fixed => MAX_ATTEMPTS,
-                RtpInboundStreamSortedQueueMode::Dynamic(_) => MAX_DYNAMIC_ATTEMPTS,
-            },
+            RtpInboundQueueMode::SortedQueue(RtpInboundStreamSortedQueueMode::Dynamic(_)) =>
+                MAX_DYNAMIC_ATTEMPTS,
+            _ => MAX_ATTEMPTS,
         }
     }
 
+    #[tactic(auto, unfolding(crate::specs::Valid::mode_valid))]
     fn is_valid(self) -> bool
         ensures { result ≡ mode_valid self }
     {
         match self {
-            RtpInboundQueueMode::Passthrough => true,
-            RtpInboundQueueMode::SortedQueue(sorted) => match sorted {
-                RtpInboundStreamSortedQueueMode::Fixed => true,
-                RtpInboundStreamSortedQueueMode::Dynamic(d) => d.is_valid(),
-            },
+            RtpInboundQueueMode::SortedQueue(RtpInboundStreamSortedQueueMode::Dynamic(d)) =>
+                d.is_valid(),
+            _ => true,
         }
     }
 }
 
 impl Settings {
-    pub fn nack_timings(self, rtt: OptRtt) -> NackTimings
+    #[tactic(auto, unfolding(crate::specs::Timings::nack_timings, crate::specs::Timings::resend_delay_of))]
+    pub fn nack_timings(self, rtt: Option<RtxRtt>) -> NackTimings
         ensures { result ≡ nack_timings self rtt }
     {
         let resend = match rtt {
-            OptRtt::None => self.default_nack_resend_delay,
-            OptRtt::Some(e) => e.nack_resend_delay(),
+            None => self.default_nack_resend_delay,
+            Some(e) => e.nack_resend_delay(),
         };
         NackTimings {
             initial: self.initial_nack_delay,
@@ -218,27 +207,27 @@ impl Settings {
     }
 
     // How long a packet is kept.
-    pub fn target_delay(self, jitter: Jitter, loss: PacketLoss, rtt: OptRtt) -> u64
+    #[tactic(auto, using(crate::proofs::Facts::usable, crate::proofs::Bounds::own, crate::proofs::Bounds::few), unfolding(crate::specs::Delay::delay_in))]
+    pub fn target_delay(self, jitter: Jitter, loss: PacketLoss, rtt: Option<RtxRtt>) -> u64
         requires { T (settings_valid self) × T (loss_in_range loss) × T (opt_rtt_in_range rtt) }
         ensures { result ≡ target_delay self jitter loss rtt }
     {
-        let mode = self.mode;
-        match mode {
+        match self.mode {
             RtpInboundQueueMode::Passthrough => 0,
-            RtpInboundQueueMode::SortedQueue(sorted) => match sorted {
-                RtpInboundStreamSortedQueueMode::Fixed => self.delay,
-                RtpInboundStreamSortedQueueMode::Dynamic(d) => {
-                    dynamic::delay(d, self.max_nack_attempts, jitter, loss, rtt)
-                }
-            },
+            RtpInboundQueueMode::SortedQueue(RtpInboundStreamSortedQueueMode::Fixed) => self.delay,
+            RtpInboundQueueMode::SortedQueue(RtpInboundStreamSortedQueueMode::Dynamic(d)) => {
+                dynamic::delay(d, self.max_nack_attempts, jitter, loss, rtt)
+            }
         }
     }
 
     // Refusal 1's test.
+    #[tactic(auto, unfolding(crate::specs::Valid::settings_valid))]
     pub fn is_valid(self) -> bool
         ensures { result ≡ settings_valid self }
     {
         let mode = self.mode;
+        // Stays: with `contains` of a range here too the proof of the conjunction did not close.
         ((1 <= self.clock_rate) & (self.clock_rate <= MAX_CLOCK_RATE))
             & depth_valid(self.max_entries)
             & gaps_valid(self.max_gaps)
@@ -252,6 +241,7 @@ impl Settings {
 
 impl Senders {
     // Refusal 1's test.
+    #[tactic(auto, unfolding(crate::specs::Valid::senders_valid))]
     pub fn is_valid(self) -> bool
         ensures { result ≡ senders_valid self }
     {
@@ -261,10 +251,12 @@ impl Senders {
 
 // ---- theorems
 
+#[tactic(auto, using(crate::proofs::Bounds::within, crate::proofs::Bounds::grows, crate::proofs::Bounds::jitter_alone))]
 fn delay_laws()
     ensures { DelayLaws }
 {}
 
+#[tactic(auto, using(crate::proofs::Spread::spread_is))]
 fn never_refused()
     ensures { NeverRefused }
 {}

@@ -4,7 +4,6 @@ use mathlib.Core.Path.{◌≡◌, refl, sym, ap, ◌∙◌}
 use mathlib.Core.Bool.{Bool, true, false, cond}
 use mathlib.Core.List.{List, [], ◌∷◌, ◌++◌, zip_with}
 use Prim.Native.Nat.{ℕ, zero, suc, ◌+◌, ◌*◌, ◌-◌, ◌/◌, ◌%◌, ◌≤◌, ◌<◌}
-use native.Mathlib.Numerals.{add-one}
 use native.Mathlib.Omega.{arith}
 use lib.Dec.{eqb, leb, ltb}
 use lib.ListN.{length, take, drop, get_or, replicate, length-take, length-drop}
@@ -17,8 +16,9 @@ use Rattle.words.proofs.Moves.{length-padded}
 use Rattle.words.proofs.Blocked.{word_at, length-firsts}
 use Rattle.words.proofs.Records.{Holds, holds-drop, holds-inserted, holds_replaced}
 use Rattle.words.proofs.Ordered.{and_left, and_right, rank-le}
-use Rattle.rtp.specs.declared.opt.Opt.{Opt}
-use Rattle.rtp.specs.declared.opt.Opt.TheVariants.{Some}
+use Rattle.std.specs.Prelude.{Option, None, Some, SomeIff}
+use Rattle.std.specs.Int.{from_bool}
+use Rattle.rtp.proofs.Order.{no-more}
 use Rattle.model.specs.Lists.{every?}
 use Rattle.model.specs.Records.{Entry, entry_numbers}
 use Rattle.model.specs.Push.{insert_sorted}
@@ -66,7 +66,7 @@ each_fits [] e = none
 each_fits (x ∷ es) e = more (leb-true (length x.payload) payload_bytes (and_left (fits x) (every? fits es) e)) (each_fits es (and_right (fits x) (every? fits es) e))
 
 -- both slices hold the entries
-module _ (words bytes : List ℕ) (n : ℕ) (k : EntriesIn words bytes n) where
+module _ {words bytes : List ℕ} {n : ℕ} (k : EntriesIn words bytes n) where
   words-held : Holds entry_words (length words) entry_words_of words n (entries_of words bytes n)
   words-held = entries-held k.held (length-entries_of words bytes n) k.room
 
@@ -101,84 +101,88 @@ unfolding first_number entries_of entry_of blocks zip_with
 first_word words bytes zero h = absurd (omega arith)
 first_word words bytes (suc n) h = get_or-take entry_words words 0 0 (omega arith)
 
-module _ (words bytes : List ℕ) (n : ℕ) where
-  pub firsts-ascend : ascends (entry_numbers (entries_of words bytes n)) ≡ true → ascends (firsts entry_words words n) ≡ true
-  firsts-ascend a = ap ascends (sym (entry-numbers words bytes n)) ∙ a
+pub rank_in : (words : List ℕ) (n r x : ℕ) → r ≡ rank x (firsts entry_words words n) → r ≤ n
+rank_in words n r x er = omega (arith, rank-le x (firsts entry_words words n), length-firsts entry_words n words)
 
-  module _ (r : ℕ) (e : Entry) (er : r ≡ rank e.number (firsts entry_words words n)) where
-    pub rank_in : r ≤ n
-    rank_in = omega (arith, rank-le e.number (firsts entry_words words n), length-firsts entry_words n words)
+pub firsts-ascend : (words bytes : List ℕ) (n : ℕ) → ascends (entry_numbers (entries_of words bytes n)) ≡ true → ascends (firsts entry_words words n) ≡ true
+firsts-ascend words bytes n a = ap ascends (sym (entry-numbers words bytes n)) ∙ a
 
-    sorted_is : insert_sorted e (entries_of words bytes n) ≡ inserted r (e ∷ []) (entries_of words bytes n)
-    sorted_is =
-        sorted_at e (entries_of words bytes n)
-        ∙ ap (λ (k : ℕ). inserted k (e ∷ []) (entries_of words bytes n)) (ap (rank e.number) (entry-numbers words bytes n) ∙ sym er)
+module _ {words bytes : List ℕ} {n r : ℕ} (k : EntriesIn words bytes n) (e : Entry) (er : r ≡ rank e.number (firsts entry_words words n)) where
+  within : r ≤ n
+  within = rank_in words n r e.number er
 
-    module _ (k : EntriesIn words bytes n) where
-      pub words-inserted : over (inserted (entry_words * r) (entry_words_of e) (take (entry_words * n) words)) words ≡ laid entry_words_of (length words) (insert_sorted e (entries_of words bytes n))
-      words-inserted = holds-inserted (words-held words bytes n k) r e rank_in ∙ ap (laid entry_words_of (length words)) (sym sorted_is)
+  sorted_is : insert_sorted e (entries_of words bytes n) ≡ inserted r (e ∷ []) (entries_of words bytes n)
+  sorted_is =
+      sorted_at e (entries_of words bytes n)
+      ∙ ap (λ (k : ℕ). inserted k (e ∷ []) (entries_of words bytes n)) (ap (rank e.number) (entry-numbers words bytes n) ∙ sym er)
 
-      pub bytes-inserted : over (inserted (payload_bytes * r) (payload_bytes_of e) (take (payload_bytes * n) bytes)) bytes ≡ laid payload_bytes_of (length bytes) (insert_sorted e (entries_of words bytes n))
-      bytes-inserted = holds-inserted (bytes-held words bytes n k) r e rank_in ∙ ap (laid payload_bytes_of (length bytes)) (sym sorted_is)
+  pub words-inserted : over (inserted (entry_words * r) (entry_words_of e) (take (entry_words * n) words)) words ≡ laid entry_words_of (length words) (insert_sorted e (entries_of words bytes n))
+  words-inserted = holds-inserted (words-held k) r e within ∙ ap (laid entry_words_of (length words)) (sym sorted_is)
 
-      -- not the first: the first goes out
-      module _ (p : 0 < r) where
-        pub words_replaced : drop entry_words (inserted (entry_words * r) (entry_words_of e) words) ≡ laid entry_words_of (length words) (drop 1 (insert_sorted e (entries_of words bytes n)))
-        words_replaced =
-            holds_replaced (words-held words bytes n k) r e (entry_wide e) p rank_in
-            ∙ ap (λ (l : List Entry). laid entry_words_of (length words) (drop 1 l)) (sym sorted_is)
+  pub bytes-inserted : over (inserted (payload_bytes * r) (payload_bytes_of e) (take (payload_bytes * n) bytes)) bytes ≡ laid payload_bytes_of (length bytes) (insert_sorted e (entries_of words bytes n))
+  bytes-inserted = holds-inserted (bytes-held k) r e within ∙ ap (laid payload_bytes_of (length bytes)) (sym sorted_is)
 
-        pub bytes_replaced : length (payload_bytes_of e) ≡ payload_bytes
-            → drop payload_bytes (inserted (payload_bytes * r) (payload_bytes_of e) bytes) ≡ laid payload_bytes_of (length bytes) (drop 1 (insert_sorted e (entries_of words bytes n)))
-        bytes_replaced w =
-            holds_replaced (bytes-held words bytes n k) r e w p rank_in
-            ∙ ap (λ (l : List Entry). laid payload_bytes_of (length bytes) (drop 1 l)) (sym sorted_is)
+  -- not the first: the first goes out
+  module _ (p : 0 < r) where
+    pub words_replaced : drop entry_words (inserted (entry_words * r) (entry_words_of e) words) ≡ laid entry_words_of (length words) (drop 1 (insert_sorted e (entries_of words bytes n)))
+    words_replaced =
+        holds_replaced (words-held k) r e (entry_wide e) p within
+        ∙ ap (λ (l : List Entry). laid entry_words_of (length words) (drop 1 l)) (sym sorted_is)
 
-        pub first_out : get_or words 0 0 ≡ first_number (insert_sorted e (entries_of words bytes n))
-        first_out =
-            sym (
-            ap first_number sorted_is
-            ∙ first-inserted r e (entries_of words bytes n) p (omega (arith, rank_in, length-entries_of words bytes n))
-            ∙ first_word words bytes n (omega (arith, rank_in)))
+    pub bytes_replaced : length (payload_bytes_of e) ≡ payload_bytes
+        → drop payload_bytes (inserted (payload_bytes * r) (payload_bytes_of e) bytes) ≡ laid payload_bytes_of (length bytes) (drop 1 (insert_sorted e (entries_of words bytes n)))
+    bytes_replaced w =
+        holds_replaced (bytes-held k) r e w p within
+        ∙ ap (λ (l : List Entry). laid payload_bytes_of (length bytes) (drop 1 l)) (sym sorted_is)
 
-      -- itself the first: it goes out
-      module _ (z : r ≡ 0) where
-        pub none_out : drop 1 (insert_sorted e (entries_of words bytes n)) ≡ entries_of words bytes n
-        unfolding inserted
-        none_out = ap (drop 1) (sorted_is ∙ ap (λ (k : ℕ). inserted k (e ∷ []) (entries_of words bytes n)) z)
+    pub first_out : get_or words 0 0 ≡ first_number (insert_sorted e (entries_of words bytes n))
+    first_out =
+        sym (
+        ap first_number sorted_is
+        ∙ first-inserted r e (entries_of words bytes n) p (omega (arith, within, length-entries_of words bytes n))
+        ∙ first_word words bytes n (omega (arith, within)))
 
-        pub self_out : e.number ≡ first_number (insert_sorted e (entries_of words bytes n))
-        unfolding inserted first_number
-        self_out = sym (ap first_number (sorted_is ∙ ap (λ (k : ℕ). inserted k (e ∷ []) (entries_of words bytes n)) z))
+  -- itself the first: it goes out
+  module _ (z : r ≡ 0) where
+    pub none_out : drop 1 (insert_sorted e (entries_of words bytes n)) ≡ entries_of words bytes n
+    unfolding inserted
+    none_out = ap (drop 1) (sorted_is ∙ ap (λ (k : ℕ). inserted k (e ∷ []) (entries_of words bytes n)) z)
+
+    pub self_out : e.number ≡ first_number (insert_sorted e (entries_of words bytes n))
+    unfolding inserted first_number
+    self_out = sym (ap first_number (sorted_is ∙ ap (λ (k : ℕ). inserted k (e ∷ []) (entries_of words bytes n)) z))
 
 -- ---- the first entry
 
-module _ (words bytes : List ℕ) (n : ℕ) (k : EntriesIn words bytes n) (h : 0 < n) where
+module _ {words bytes : List ℕ} {n : ℕ} (k : EntriesIn words bytes n) (h : 0 < n) where
   pub words_dropped : over (cut 0 entry_words (take (entry_words * n) words) ++ replicate entry_words 0) words ≡ laid entry_words_of (length words) (drop 1 (entries_of words bytes n))
-  words_dropped = holds-drop (words-held words bytes n k) 1 h
+  words_dropped = holds-drop (words-held k) 1 h
 
   pub bytes_dropped : over (cut 0 payload_bytes (take (payload_bytes * n) bytes) ++ replicate payload_bytes 0) bytes ≡ laid payload_bytes_of (length bytes) (drop 1 (entries_of words bytes n))
-  bytes_dropped = holds-drop (bytes-held words bytes n k) 1 h
+  bytes_dropped = holds-drop (bytes-held k) 1 h
 
 -- ---- an entry of the code
 
-pub arrival-some : (w : ℕ) → (w ≡ 0 → ⊥) → Some (w - 1) ≡ arrival_of w
+pub arrival_read : (w : ℕ) (r : Option ℕ) → SomeIff r (1 ≤ w) (w - 1) → r ≡ arrival_of w
 unfolding arrival_of
-arrival-some zero h = absurd (h refl)
-arrival-some (suc i) h = let e : suc i - 1 ≡ i = omega arith in ap Some e
+arrival_read zero None h = refl
+arrival_read zero (Some i) h = let a : 1 ≤ zero = h.0 in absurd (omega arith)
+arrival_read (suc w) None h = absurd (h (omega arith))
+arrival_read (suc w) (Some i) h = let e : i ≡ w = h.1 ∙ omega arith in ap Some e
 
-pub arrival-is : (a : Opt) (i : ℕ) → a ≡ Some i → arrival_word a ≡ i + 1
-unfolding arrival_word
-arrival-is a i e = rw (e, add-one)
+bit_is : (b : Bool) → from_bool b ≡ bit b
+unfolding bit
+bit_is true = refl
+bit_is false = refl
 
-module _ (e : Row.Entry) (p : List ℕ) (c : Incoming e p) where
-  pub row_words : (a w : ℕ) → a ≡ arrival_word e.arrival → w ≡ 2 * e.size + bit e.marker → ◌≡◌ {A = List ℕ} (e.number.0 ∷ e.timestamp.0 ∷ a ∷ w ∷ []) (entry_words_of (entry e p))
-  unfolding entry_words_of
-  row_words a w ea ew = rw (ea, ew, c.size)
+pub row_words : (e : Row.Entry) (p : List ℕ) (a m : ℕ) → e.size ≡ length p → a ≡ arrival_word e.arrival → m ≡ from_bool e.marker
+    → ◌≡◌ {A = List ℕ} (e.number.0 ∷ e.timestamp.0 ∷ a ∷ (2 * e.size + m) ∷ []) (entry_words_of (entry e p))
+unfolding entry_words_of
+row_words e p a m s ea em = rw (ea, em, bit_is e.marker, s)
 
-  pub row-place : length (payload_bytes_of (entry e p)) ≡ payload_bytes
-  unfolding payload_bytes_of
-  row-place = length-padded payload_bytes p c.fits
+pub row-place : (e : Row.Entry) (p : List ℕ) → Incoming e p → length (payload_bytes_of (entry e p)) ≡ payload_bytes
+unfolding payload_bytes_of
+row-place e p c = length-padded payload_bytes p c.fits
 
 -- r was read at place i; its payload is the front of that place
 module _ (words bytes : List ℕ) (n i : ℕ) (h : i < n) (r : Row.Entry)
@@ -206,10 +210,18 @@ module _ (words bytes : List ℕ) (n i : ℕ) (h : i < n) (r : Row.Entry)
         let s : padded size q ≡ q = ap (λ (j : ℕ). padded j q) (sym lq) ∙ padded_self q in
         read_is ∙ ap (λ (l : List ℕ). entry r l) (ap (padded size) t ∙ s)
 
-module _ (words bytes : List ℕ) (n : ℕ) (k : EntriesIn words bytes n) (h : 0 < n) (r : Row.Entry)
+module _ {words bytes : List ℕ} {n : ℕ} (k : EntriesIn words bytes n) (h : 0 < n) (r : Row.Entry)
     (e : (p : List ℕ) → entry_of (take entry_words (drop (entry_words * 0) words)) p ≡ entry r (padded r.size (take r.size p))) where
   pub front_fits : r.size ≤ payload_bytes
   front_fits = place-fits words bytes n 0 h r e k.places k.fit
 
   pub front_is : take 1 (entries_of words bytes n) ≡ entry r (take r.size bytes) ∷ []
   front_is = take-suc (entries_of words bytes n) 0 no_entry (rw length-entries_of h) ∙ ap (λ (x : Entry). x ∷ []) (place_is words bytes n 0 h r e k.places k.fit)
+
+-- ---- what the functions have to know
+
+pub ruleset no_higher = (no-more)
+
+pub ruleset popping = (words_dropped, bytes_dropped)
+
+pub ruleset inserting = (firsts-ascend, rank_in, none_out, self_out)

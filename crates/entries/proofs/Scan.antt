@@ -83,7 +83,7 @@ length-places : (es : List Entry) (i : ℕ) → every? fits es ≡ true → i �
 length-places es i f h =
     length-words payload_bytes payload_bytes_of i (take i es) (even_payloads (take i es) (each_take Fits i es (each_fits es f))) (length-take-le i es h)
 
-module _ (words bytes₀ bytes : List ℕ) (n i : ℕ) (t : Tidying words bytes₀ bytes n i) where
+module _ {words bytes₀ bytes : List ℕ} {n i : ℕ} (t : Tidying words bytes₀ bytes n i) where
   all : List Entry
   all = entries_of words bytes₀ n
 
@@ -166,3 +166,7 @@ words_forth (suc n) words bytes h =
 pub words_tidied : (words bytes : List ℕ) (n : ℕ) → entry_words * n ≤ length words → padded (length words) (take (entry_words * n) words) ≡ laid entry_words_of (length words) (entries_of words bytes n)
 unfolding laid
 words_tidied words bytes n h = ap (padded (length words)) (sym (ap flat (words_forth n words bytes h) ∙ flat-blocks entry_words n words))
+
+pub ruleset sounding = (scan_end)
+
+pub ruleset tidying = (tidying_none, tidying_fits, tidying_more, tidying_all)

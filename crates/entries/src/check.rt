@@ -13,83 +13,74 @@ ghost use Rattle.entries.specs.Entries.{fits};
 use super::{ENTRY_WORDS, Entry, PAYLOAD_BYTES};
 use packet_gaps::check::Bounds;
 use rtp::ExtendedSequenceNumber;
-use rtp::opt::{Opt, OptNumber};
 
-fn at_most(highest: OptNumber, x: ExtendedSequenceNumber) -> bool
+#[tactic(auto, using(crate::proofs::Laws::no_higher), unfolding(rtp::specs::Opt::number_of, rtp::specs::Opt::at_most))]
+fn at_most(highest: Option<ExtendedSequenceNumber>, x: ExtendedSequenceNumber) -> bool
     ensures { result ≡ at_most x.0 (number_of highest) }
 {
-    match highest {
-        OptNumber::None => false,
-        OptNumber::Some(h) => x.0 <= h.0,
-    }
+    highest.is_some_and(|h| x <= h)
 }
 
-fn by_clock(clock: u64, instant: Opt) -> bool
+#[tactic(auto, unfolding(model::specs::Valid::by_clock))]
+fn by_clock(clock: u64, instant: Option<u64>) -> bool
     ensures { result ≡ by_clock clock instant }
 {
-    match instant {
-        Opt::None => true,
-        Opt::Some(i) => i <= clock,
-    }
+    instant.is_none_or(|i| i <= clock)
 }
 
 // `missing`: the entry's number is that of a gap too.
+#[tactic(auto, unfolding(model::specs::Valid::fields_sound))]
 fn entry_sound(b: Bounds, missing: bool, e: Entry) -> bool
     ensures { result ≡ fields_sound (bounds b) missing e.number.0 e.timestamp.0 e.arrival e.size }
 {
-    let highest = b.highest;
-    let passed = b.passed;
-    let arrival = e.arrival;
-    let low = packet_gaps::check::above(passed, e.number);
-    let high = at_most(highest, e.number);
-    let came = by_clock(b.clock, arrival);
+    let low = packet_gaps::check::above(b.passed, e.number);
+    let high = at_most(b.highest, e.number);
+    let came = by_clock(b.clock, e.arrival);
     high & (low
         & (!missing & ((e.timestamp.0 <= durations::LARGEST) & (came & (e.size <= PAYLOAD_BYTES)))))
 }
 
 // Whether the numbers of the n entries ascend, and each entry keeps to the bounds and has not the number of one of the m gaps. The
 // payloads' bytes are not looked at.
+// Stays: the caller lends the words (the C interface), and the session has the count.
+#[tactic(auto, using(crate::proofs::Scan::sounding), unfolding(packet_gaps::proofs::Turns::left))]
 pub fn are_sound(words: &[u64], n: usize, b: Bounds, gaps: &[u64], m: usize) -> bool
     requires n_in_bounds { (entry_words * n ≤ length words.now) × (gap_words * m ≤ length gaps.now) }
     requires m_value { ascends (gap_numbers (gaps_of gaps.now m)) ≡ true }
     ensures { (bytes : List ℕ) → result ≡ entries_sound (bounds b) (gaps_of gaps.now m) (entries_of words.now bytes n) }
 {
-    let mut i = 0;
-    while i < n {
+    for i in 0..n {
         let e = super::read(words, i);
         let missing = packet_gaps::contains(gaps, m, e.number);
         if !entry_sound(b, missing, e) {
             return false;
         }
         let next = i + 1;
-        if next < n {
-            if words[ENTRY_WORDS * next] <= e.number.0 {
-                return false;
-            }
-            i = next;
-        } else {
-            i = next;
+        if next < n && words[ENTRY_WORDS * next] <= e.number.0 {
+            return false;
         }
     }
     true
 }
 
 // Zeros in each payload's place after the payload, and in all places after the n-th.
+// Stays: the caller lends the words (the C interface), and the session has the count.
+#[tactic(auto, using(crate::proofs::Scan::tidying))]
 fn tidy_places(words: &[u64], bytes: &mut [u8], n: usize)
     requires n_in_bounds { (entry_words * n ≤ length words.now) × (payload_bytes * n ≤ length bytes.old) }
     requires n_value { every? fits (entries_of words.now bytes.old n) ≡ true }
     ensures { bytes.new ≡ laid payload_bytes_of (length bytes.old) (entries_of words.now bytes.old n) }
 {
-    let mut i = 0;
-    while i < n {
+    for i in 0..n {
         let e = super::read(words, i);
-        words::octets::tidy_place(bytes, PAYLOAD_BYTES * i, PAYLOAD_BYTES, e.size);
-        i += 1;
+        words::tidy_place(bytes, PAYLOAD_BYTES * i, PAYLOAD_BYTES, e.size);
     }
-    words::octets::tidy(bytes, PAYLOAD_BYTES * n);
+    words::tidy(bytes, PAYLOAD_BYTES * n);
 }
 
 // Zeros wherever nothing of the n entries stands.
+// Stays: the caller lends the words (the C interface), and the session has the count.
+#[tactic(auto, using(crate::proofs::Scan::words_tidied))]
 pub fn tidy(words: &mut [u64], bytes: &mut [u8], n: usize)
     requires n_in_bounds { (entry_words * n ≤ length words.old) × (payload_bytes * n ≤ length bytes.old) }
     requires n_value { every? fits (entries_of words.old bytes.old n) ≡ true }

@@ -12,7 +12,8 @@ use Rattle.jitter.specs.Interarrival.{tiny, one64, sixteen, sixty_four, magnitud
 use Rattle.packet_loss.specs.declared.PacketLoss.{PacketLoss}
 use Rattle.packet_loss.specs.Loss.{record_received, record_lost}
 use Rattle.model.specs.declared.Config.{Config}
-use Rattle.model.specs.declared.LastReceived.{LastReceived}
+use Rattle.model.specs.declared.Received.{Received}
+use Rattle.std.specs.Prelude.{Option, None, Some}
 use Rattle.model.specs.declared.Queue.{Queue}
 use Rattle.model.specs.Records.{Entry, State, new_queue, new_state}
 use Rattle.model.specs.Rules.{Place, waits, overfull}
@@ -48,10 +49,10 @@ updated_fits j now ts last last_ts h =
     or_same : (b : Bool) (k : Jitter) → JitterFits k → JitterFits (cond b j k)
     or_same b k fit = either JitterFits b j k h fit
 
-after-fits : (now ts : ℕ) (l : LastReceived) (j : Jitter) → JitterFits j → JitterFits (jitter_after now ts l j)
+after-fits : (now ts : ℕ) (l : Option Received) (j : Jitter) → JitterFits j → JitterFits (jitter_after now ts l j)
 unfolding jitter_after
-after-fits now ts LastReceived.None j h = h
-after-fits now ts (LastReceived.Some r) j h = updated_fits j now ts r.instant r.timestamp.0 h
+after-fits now ts None j h = h
+after-fits now ts (Some r) j h = updated_fits j now ts r.instant r.timestamp.0 h
 
 lost_fits : (p : PacketLoss) (n : ℕ) → T (fits binary32 p.loss) → T (fits binary32 (record_lost p n).loss)
 unfolding record_lost

@@ -6,7 +6,7 @@ use mathlib.Core.List.{List, [], ◌∷◌}
 use Prim.Native.Nat.{ℕ, zero, suc}
 use lib.ListN.{length}
 use lib.Dec.{eqb}
-use Rattle.rtp.specs.declared.opt.Opt.TheVariants.{None}
+use Rattle.std.specs.Prelude.{None}
 use Rattle.model.specs.declared.Queue.{Queue}
 use Rattle.model.specs.declared.Session.{Session}
 use Rattle.model.specs.Records.{Entry, State, new_state}
@@ -28,7 +28,7 @@ use Rattle.ffi_words.specs.declared.answers.PolledNack.{PolledNack}
 use Rattle.ffi_words.specs.declared.answers.PolledWire.{PolledWire}
 use Rattle.ffi_words.specs.Words.{config_readable, readable, config_of, session_of, words_of, FloatsFit}
 use Rattle.ffi_words.specs.Told.{refusal_in, session_after, open_told, pushed, polled, polled_nack, polled_wire}
-use Rattle.ffi_words.proofs.Kept.{words-kept}
+use Rattle.ffi_words.proofs.Kept.{words_kept}
 use Rattle.ffi.proofs.Floats.{taken-fits, new_fits}
 use Rattle.ffi.specs.Exported.{stands_for, Given, unread, told, called, Gives, alone, opened_by, opened_words}
 use Rattle.ffi.specs.Follows.{ExportedCall, push, push_rtx, polls, polls_nack, nacks_wire, receive_timeout, nack_timeout, repair_figures, highest_number, ReadAs, Follows}
@@ -70,7 +70,7 @@ words a w = w
 
 written : (s : State) → FloatsFit s.queue → ReadAs (words_of (write s).session) (write s).storage (write s)
 unfolding write
-written s h = (words-kept.stays_readable (write s).session, ap (λ (x : Session). record { session = x; storage = (write s).storage }) (words-kept.same (write s).session h))
+written s h = (words_kept.stays_readable (write s).session, ap (λ (x : Session). record { session = x; storage = (write s).storage }) (words_kept.same (write s).session h))
 
 module _ (c : Call) (w : SessionWords) (t : Storage) (r : readable w ≡ true) where
   abbrev m : Stored
@@ -82,7 +82,7 @@ module _ (c : Call) (w : SessionWords) (t : Storage) (r : readable w ≡ true) w
   stands : (b : Bool) → ReadAs (told words w (done b)).value (told words w (done b)).storage (done b).stored
   unfolding told accepted turned_back session_after refusal_in parse session_of
   stands false = (r, refl)
-  stands true = rw (no_refusal c (parse m)) (written (taken c (parse m)) (taken-fits c (parse m) (words-kept.floats_fit w)))
+  stands true = rw (no_refusal c (parse m)) (written (taken c (parse m)) (taken-fits c (parse m) (words_kept.floats_fit w)))
 
   words_follow : ReadAs (called words c w t).value (called words c w t).storage (did c m).stored
   unfolding called did

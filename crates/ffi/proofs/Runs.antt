@@ -11,7 +11,8 @@ use lib.Ieee.Bits.{is_true}
 use lib.Ieee.Fits.{and_l, and_r}
 use borrow.Author.Tests.{eqb-true}
 use Rattle.refusals.specs.Refusals.{SETTINGS}
-use Rattle.stats.specs.declared.OptRtxStats.{OptRtxStats}
+use Rattle.stats.specs.declared.RtpInboundRtxStats.{RtpInboundRtxStats}
+use Rattle.std.specs.Prelude.{Option, None, Some}
 use Rattle.model.specs.declared.Queue.{Queue}
 use Rattle.model.specs.Records.{Entry, State, new_state}
 use Rattle.model.specs.Rules.{waits}
@@ -108,10 +109,10 @@ module _ (now : ℕ) (out : List ℕ) (m : Stored) (w : SessionWords) where
   unfolding did
   poll_hears = poll_at (eqb (refusal (poll now out) m) 0) refl
 
-stats-number : (n : ℕ) (f : OptRtxStats) → (stats_words n f).refusal ≡ n
+stats-number : (n : ℕ) (f : Option RtpInboundRtxStats) → (stats_words n f).refusal ≡ n
 unfolding stats_words
-stats-number n OptRtxStats.None = refl
-stats-number n (OptRtxStats.Some f) = refl
+stats-number n None = refl
+stats-number n (Some f) = refl
 
 polled_hears : (now : ℕ) (out : List ℕ) (w : SessionWords) (t : Storage) {u : Storage} {r : Polled} {left : List ℕ} → readable w ≡ true → Gives polled (poll now out) w t r u left
     → Hears (did (poll now out) (stands_for w t)).answer (heard_in r.refusal r.has_packet) (numbers_in r)

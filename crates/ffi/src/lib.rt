@@ -1,11 +1,13 @@
 // The library for C and Rust: the opening, the calls, the burst, two readings, the reader of NACK entries and the version, on words that the caller
 // keeps and storage that it lends; in settings.rt the line of settings. Crate `ffi_c` exports each function whose name begins with bizhgemu_.
 // No function asks anything of its caller but live slices of the lengths passed, none of which overlaps another that is written.
-#![tactic(auto)]
+#![tactic(auto, using(crate::proofs::Given::not_read), unfolding(model::specs::Calls::output_of))]
 
 ghost use Rattle.std.specs.Prelude.{◌≡◌, []};
 ghost use Rattle.model.specs.Calls as Calls;
 ghost use Rattle.model.specs.Contract.{lent, left};
+ghost use Rattle.refusals.specs.Refusals.{refusal_of};
+ghost use Rattle.burst.specs.Burst.{written};
 ghost use Rattle.ffi_words.specs.Told as Told;
 ghost use Rattle.ffi.specs.Exported as Exported;
 ghost use Rattle.ffi.specs.Exported.{Gives, alone, opened_words};
@@ -24,6 +26,8 @@ use packet_gaps::GAP_WORDS;
 use poll::{nack, wire};
 use push::rtx;
 use queue::{open, reading};
+use refusals::Refusal;
+use storage::Held;
 
 pub mod settings;
 
@@ -31,6 +35,7 @@ pub mod settings;
 pub const VERSION: u64 = 3000;
 
 // A refused opening gives a session of zeros.
+#[tactic(auto, unfolding(crate::specs::Exported::opened_words, crate::specs::Exported::opened_by))]
 pub fn bizhgemu_open(
     config: ConfigWords,
     entries: &mut [u64],
@@ -41,7 +46,7 @@ pub fn bizhgemu_open(
     ensures { opened_words config (lent entries payloads gaps remembered) ≡ record { value = result; storage = left entries payloads gaps remembered; output = [] } }
 {
     if !ffi_words::config_readable(config) {
-        return answers::open_refused(refusals::SETTINGS);
+        return answers::open_refused(Refusal::Settings);
     }
     let opening = open::open(
         ffi_words::config_of(config),
@@ -54,6 +59,7 @@ pub fn bizhgemu_open(
 }
 
 // In this and each later call: words that cannot be read are refused under 16, and a refused call gives the words back as they came.
+// Stays: each exported name has its call, and the C interface wants each as a function.
 pub fn bizhgemu_push(
     session: SessionWords,
     entries: &mut [u64],
@@ -65,25 +71,38 @@ pub fn bizhgemu_push(
 ) -> Pushed
     ensures { Gives Told.pushed (Calls.media now datagram.now) session (lent entries payloads gaps remembered) result (left entries payloads gaps remembered) [] }
 {
-    if !ffi_words::readable(session) {
-        return answers::push_refused(refusals::SESSION, session);
-    }
-    let read = ffi_words::session_of(session);
-    let done = push::push(read, entries, payloads, gaps, remembered, now, datagram);
-    let answer = done.answer;
-    let left = done.session;
-    answers::media_told(answer, session, left)
+    let Some(read) = ffi_words::read(session) else {
+        return answers::push_refused(Refusal::Session, session);
+    };
+    // Stays: `Held` in full, here and below. Of a slice lent to a function that puts it into a `Held`, the checker knows no more than its length
+    // when this function returns: a `held(..)` with the slices' ghost names in its contract was proved, its callers were not.
+    let mut q = Held {
+        session: read,
+        entries,
+        payloads,
+        gaps,
+        remembered,
+    };
+    let answer = push::push(&mut q, now, datagram);
+    answers::media_told(answer, session, q.session)
 }
 
 // Words that cannot be read stand for a session of zeros, which check 16 refuses.
+#[tactic(auto, unfolding(crate::specs::Burst::session_in, ffi_words::specs::Words::read))]
 fn session_in(words: SessionWords) -> Session
     ensures { result ≡ session_in words }
 {
-    if ffi_words::readable(words) {
-        return ffi_words::session_of(words);
+    ffi_words::read(words).unwrap_or_else(|| ffi_words::session_of(writing::no_session()))
+}
+
+// The number of a refusal, and how many answers were written.
+fn burst_done(done: Result<usize, Refusal>) -> (u64, usize)
+    ensures { (result.0 ≡ refusal_of done) × (result.1 ≡ written done) }
+{
+    match done {
+        Ok(written) => (0, written),
+        Err(e) => (e.number(), 0),
     }
-    let zeros = writing::no_session();
-    ffi_words::session_of(zeros)
 }
 
 // 02, point 4: a burst of media datagrams. The words come back as they came where no datagram was accepted.
@@ -100,14 +119,17 @@ pub fn bizhgemu_push_burst(
 ) -> PushedBurst
     ensures { called_burst now buffer.now ends.now numbers.old session (lent entries payloads gaps remembered) ≡ record { value = result; storage = left entries payloads gaps remembered; output = numbers.new } }
 {
-    let read = session_in(session);
-    let done = burst::push_burst(
-        read, entries, payloads, gaps, remembered, now, buffer, ends, numbers,
-    );
-    let written = done.answers;
-    let left = done.session;
+    let mut q = Held {
+        session: session_in(session),
+        entries,
+        payloads,
+        gaps,
+        remembered,
+    };
+    let done = burst::push_burst(&mut q, now, buffer, ends, numbers);
+    let (refusal, written) = burst_done(done);
     let accepted = burst::any_accepted(numbers, written);
-    answers::burst_told(done.refusal, written, accepted, session, left)
+    answers::burst_told(refusal, written, accepted, session, q.session)
 }
 
 pub fn bizhgemu_push_rtx(
@@ -121,16 +143,21 @@ pub fn bizhgemu_push_rtx(
 ) -> Pushed
     ensures { Gives Told.pushed (Calls.repair now datagram.now) session (lent entries payloads gaps remembered) result (left entries payloads gaps remembered) [] }
 {
-    if !ffi_words::readable(session) {
-        return answers::push_refused(refusals::SESSION, session);
-    }
-    let read = ffi_words::session_of(session);
-    let done = rtx::push_rtx(read, entries, payloads, gaps, remembered, now, datagram);
-    let answer = done.answer;
-    let left = done.session;
-    answers::repair_told(answer, session, left)
+    let Some(read) = ffi_words::read(session) else {
+        return answers::push_refused(Refusal::Session, session);
+    };
+    let mut q = Held {
+        session: read,
+        entries,
+        payloads,
+        gaps,
+        remembered,
+    };
+    let answer = rtx::push_rtx(&mut q, now, datagram);
+    answers::repair_told(answer, session, q.session)
 }
 
+// Stays: as above: each exported name has its call and its output.
 pub fn bizhgemu_poll(
     session: SessionWords,
     entries: &mut [u64],
@@ -142,14 +169,18 @@ pub fn bizhgemu_poll(
 ) -> Polled
     ensures { Gives Told.polled (Calls.poll now out.old) session (lent entries payloads gaps remembered) result (left entries payloads gaps remembered) out.new }
 {
-    if !ffi_words::readable(session) {
-        return answers::poll_refused(refusals::SESSION, session);
-    }
-    let read = ffi_words::session_of(session);
-    let done = poll::poll(read, entries, payloads, gaps, remembered, now, out);
-    let answer = done.answer;
-    let left = done.session;
-    answers::poll_told(answer, session, left)
+    let Some(read) = ffi_words::read(session) else {
+        return answers::poll_refused(Refusal::Session, session);
+    };
+    let mut q = Held {
+        session: read,
+        entries,
+        payloads,
+        gaps,
+        remembered,
+    };
+    let answer = poll::poll(&mut q, now, out);
+    answers::poll_told(answer, session, q.session)
 }
 
 pub fn bizhgemu_poll_nack(
@@ -163,14 +194,18 @@ pub fn bizhgemu_poll_nack(
 ) -> PolledNack
     ensures { Gives Told.polled_nack (Calls.poll_nack now out.old) session (lent entries payloads gaps remembered) result (left entries payloads gaps remembered) out.new }
 {
-    if !ffi_words::readable(session) {
-        return answers::nack_refused(refusals::SESSION, session);
-    }
-    let read = ffi_words::session_of(session);
-    let done = nack::poll_nack(read, entries, payloads, gaps, remembered, now, out);
-    let answer = done.answer;
-    let left = done.session;
-    answers::nack_told(answer, session, left)
+    let Some(read) = ffi_words::read(session) else {
+        return answers::nack_refused(Refusal::Session, session);
+    };
+    let mut q = Held {
+        session: read,
+        entries,
+        payloads,
+        gaps,
+        remembered,
+    };
+    let answer = nack::poll_nack(&mut q, now, out);
+    answers::nack_told(answer, session, q.session)
 }
 
 pub fn bizhgemu_nack_wire(
@@ -184,23 +219,29 @@ pub fn bizhgemu_nack_wire(
 ) -> PolledWire
     ensures { Gives Told.polled_wire (Calls.nack_wire now out.old) session (lent entries payloads gaps remembered) result (left entries payloads gaps remembered) out.new }
 {
-    if !ffi_words::readable(session) {
-        return answers::wire_refused(refusals::SESSION, session);
-    }
-    let read = ffi_words::session_of(session);
-    let done = wire::nack_wire(read, entries, payloads, gaps, remembered, now, out);
-    let answer = done.answer;
-    let left = done.session;
-    answers::wire_told(answer, session, left)
+    let Some(read) = ffi_words::read(session) else {
+        return answers::wire_refused(Refusal::Session, session);
+    };
+    let mut q = Held {
+        session: read,
+        entries,
+        payloads,
+        gaps,
+        remembered,
+    };
+    let answer = wire::nack_wire(&mut q, now, out);
+    answers::wire_told(answer, session, q.session)
 }
 
 // The 16-bit numbers that the entries of a generic NACK name. No session is needed.
+#[tactic(auto, unfolding(crate::specs::Exported::read_nacks))]
 pub fn bizhgemu_read_nacks(entries: &[u8], out: &mut [u16]) -> ReadNumbers
     ensures { Exported.read_nacks entries.now out.old ≡ record { value = result; list = out.new } }
 {
     figures::numbers_told(read::read(entries, out))
 }
 
+// Stays: as above.
 pub fn bizhgemu_timeout_receive(
     session: SessionWords,
     entries: &mut [u64],
@@ -211,11 +252,17 @@ pub fn bizhgemu_timeout_receive(
 ) -> Timeout
     ensures { Gives (alone Told.timeout_told) (Calls.timeout_receive now) session (lent entries payloads gaps remembered) result (left entries payloads gaps remembered) [] }
 {
-    if !ffi_words::readable(session) {
-        return figures::timeout_refused(refusals::SESSION);
-    }
-    let read = ffi_words::session_of(session);
-    let answer = reading::timeout_receive(read, entries, payloads, gaps, remembered, now);
+    let Some(read) = ffi_words::read(session) else {
+        return figures::timeout_refused(Refusal::Session);
+    };
+    let mut q = Held {
+        session: read,
+        entries,
+        payloads,
+        gaps,
+        remembered,
+    };
+    let answer = reading::timeout_receive(&mut q, now);
     figures::timeout_told(answer)
 }
 
@@ -229,14 +276,21 @@ pub fn bizhgemu_timeout_nack(
 ) -> Timeout
     ensures { Gives (alone Told.timeout_told) (Calls.timeout_nack now) session (lent entries payloads gaps remembered) result (left entries payloads gaps remembered) [] }
 {
-    if !ffi_words::readable(session) {
-        return figures::timeout_refused(refusals::SESSION);
-    }
-    let read = ffi_words::session_of(session);
-    let answer = reading::timeout_nack(read, entries, payloads, gaps, remembered, now);
+    let Some(read) = ffi_words::read(session) else {
+        return figures::timeout_refused(Refusal::Session);
+    };
+    let mut q = Held {
+        session: read,
+        entries,
+        payloads,
+        gaps,
+        remembered,
+    };
+    let answer = reading::timeout_nack(&mut q, now);
     figures::timeout_told(answer)
 }
 
+// Stays: as above.
 pub fn bizhgemu_rtx_stats(
     session: SessionWords,
     entries: &mut [u64],
@@ -246,11 +300,17 @@ pub fn bizhgemu_rtx_stats(
 ) -> RtxStats
     ensures { Gives (alone Told.stats_told) Calls.rtx_stats session (lent entries payloads gaps remembered) result (left entries payloads gaps remembered) [] }
 {
-    if !ffi_words::readable(session) {
-        return figures::stats_refused(refusals::SESSION);
-    }
-    let read = ffi_words::session_of(session);
-    let answer = reading::rtx_stats(read, entries, payloads, gaps, remembered);
+    let Some(read) = ffi_words::read(session) else {
+        return figures::stats_refused(Refusal::Session);
+    };
+    let mut q = Held {
+        session: read,
+        entries,
+        payloads,
+        gaps,
+        remembered,
+    };
+    let answer = reading::rtx_stats(&mut q);
     figures::stats_told(answer)
 }
 
@@ -263,25 +323,28 @@ pub fn bizhgemu_highest_sequence_number_received(
 ) -> Highest
     ensures { Gives (alone Told.highest_told) Calls.highest_received session (lent entries payloads gaps remembered) result (left entries payloads gaps remembered) [] }
 {
-    if !ffi_words::readable(session) {
-        return figures::highest_refused(refusals::SESSION);
-    }
-    let read = ffi_words::session_of(session);
-    let answer = reading::highest_sequence_number_received(
-        read, entries, payloads, gaps, remembered,
-    );
+    let Some(read) = ffi_words::read(session) else {
+        return figures::highest_refused(Refusal::Session);
+    };
+    let mut q = Held {
+        session: read,
+        entries,
+        payloads,
+        gaps,
+        remembered,
+    };
+    let answer = reading::highest_sequence_number_received(&mut q);
     figures::highest_told(answer)
 }
 
+// Stays: it refuses as well, so it is no conversion.
+#[tactic(auto, unfolding(crate::specs::Exported::queue_figures, crate::specs::Exported::figures_of))]
 fn figures_told(q: Queue) -> Figures
     ensures { result ≡ Exported.queue_figures q }
 {
     let config = q.config;
-    if !checks::config_valid(config) {
-        return figures::figures_refused(refusals::SESSION);
-    }
-    if !checks::queue_sound(q) {
-        return figures::figures_refused(refusals::SESSION);
+    if !(checks::config_valid(config) && checks::queue_sound(q)) {
+        return figures::figures_refused(Refusal::Session);
     }
     let counters = q.counters;
     let jitter = q.jitter;
@@ -298,35 +361,31 @@ fn figures_told(q: Queue) -> Figures
 }
 
 // The inbound stream; refused under 16 where the settings or the session's own records do not pass it.
+#[tactic(auto, using(crate::proofs::Given::is_unread), unfolding(crate::specs::Exported::figures))]
 pub fn bizhgemu_figures(session: SessionWords) -> Figures
     ensures { result ≡ Exported.figures session }
 {
-    if !ffi_words::readable(session) {
-        return figures::figures_refused(refusals::SESSION);
+    match ffi_words::read(session) {
+        Some(s) => figures_told(s.queue),
+        None => figures::figures_refused(Refusal::Session),
     }
-    figures_told(ffi_words::queue_of(session))
 }
 
 fn no_lengths() -> Lengths
     ensures { result ≡ Exported.no_lengths }
 {
     Lengths {
-        refusal: refusals::SETTINGS,
-        entries: 0,
-        payloads: 0,
-        gaps: 0,
-        remembered: 0,
+        refusal: Refusal::Settings.number(),
+        ..Lengths::default()
     }
 }
 
 // How long the lent slices are to be, by D and G.
+#[tactic(auto, unfolding(crate::specs::Exported::lengths))]
 pub fn bizhgemu_lengths(max_entries: usize, max_gaps: usize) -> Lengths
     ensures { result ≡ Exported.lengths max_entries max_gaps }
 {
-    if !config::depth_valid(max_entries) {
-        return no_lengths();
-    }
-    if !config::gaps_valid(max_gaps) {
+    if !(config::depth_valid(max_entries) && config::gaps_valid(max_gaps)) {
         return no_lengths();
     }
     let places = 2 * max_entries;
@@ -347,16 +406,19 @@ pub fn bizhgemu_version() -> u64
 }
 
 // What the caller has after one call, the next one takes up.
+#[tactic(auto, using(crate::proofs::Follows::follows))]
 pub fn calls_follow()
     ensures { Follows }
 {}
 
 // Demand 3 of every run of exported calls, each on the words and the storage that the last one left.
+#[tactic(auto, using(crate::proofs::Runs::every_run_in_words))]
 pub fn every_run()
     ensures { EveryRunInWords }
 {}
 
 // A burst counts as its media calls in such a run.
+#[tactic(auto, using(crate::proofs::Burst::burst_follows))]
 pub fn burst_follows()
     ensures { BurstFollows }
 {}

@@ -4,15 +4,16 @@ use mathlib.Core.Bool.{Bool, true, false}
 use lib.Dec.{eqb, leb}
 use lib.Ieee.{binary32, binary64}
 use lib.Ieee.Bits.{of_bits-to_bits, of_bits-fits}
-use Rattle.rtp.specs.declared.opt.OptNumber.{OptNumber}
-use Rattle.rtx_state.specs.declared.OptRtt.{OptRtt}
+use Rattle.rtp.specs.declared.ExtendedSequenceNumber.{ExtendedSequenceNumber}
+use Rattle.rtx_state.specs.declared.RtxRtt.{RtxRtt}
+use Rattle.model.specs.declared.Received.{Received}
+use Rattle.std.specs.Prelude.{Option, None, Some}
 use Rattle.config.specs.declared.RtpInboundStreamSortedQueueMode.TheVariants.{Fixed, Dynamic}
 use Rattle.config.specs.declared.RtpInboundQueueMode.{RtpInboundQueueMode}
 use Rattle.config.specs.declared.RtpInboundQueueMode.TheVariants.{Passthrough, SortedQueue}
 use Rattle.config.specs.Mode.{mode_of, mode_number, dynamic_of}
-use Rattle.model.specs.declared.LastReceived.{LastReceived}
 use Rattle.model.specs.declared.Config.{Config}
-use Rattle.ffi_words.specs.Words.{config_readable, readable, config_of, last_of, returned_of, rtt_of, queue_of, session_of, flag, config_words, last_words, returned_words, rtt_words, words_of, Kept}
+use Rattle.ffi_words.specs.Words.{config_readable, readable, config_of, flagged, queue_of, session_of, flag, config_words, last_words, returned_words, rtt_words, words_of, Kept}
 
 -- ---- each part
 
@@ -27,20 +28,20 @@ unfolding flag
 flag-kept false = refl
 flag-kept true = refl
 
-last-kept : (l : LastReceived) → last_of (last_words l) ≡ l
-unfolding last_of last_words
-last-kept LastReceived.None = refl
-last-kept (LastReceived.Some r) = refl
+last-kept : (l : Option Received) → let w = last_words l in flagged w.0 (record { instant = w.1; timestamp = record { 0 = w.2 }; number = record { 0 = w.3 } }) ≡ l
+unfolding flagged last_words
+last-kept None = refl
+last-kept (Some r) = refl
 
-returned-kept : (l : OptNumber) → returned_of (returned_words l) ≡ l
-unfolding returned_of returned_words
-returned-kept OptNumber.None = refl
-returned-kept (OptNumber.Some n) = refl
+returned-kept : (l : Option ExtendedSequenceNumber) → let w = returned_words l in flagged w.0 (record { 0 = w.1 }) ≡ l
+unfolding flagged returned_words
+returned-kept None = refl
+returned-kept (Some n) = refl
 
-rtt_kept : (r : OptRtt) → rtt_of (rtt_words r) ≡ r
-unfolding rtt_of rtt_words
-rtt_kept OptRtt.None = refl
-rtt_kept (OptRtt.Some e) = refl
+rtt_kept : (r : Option RtxRtt) → let w = rtt_words r in flagged w.0 (record { srtt = w.1; variation = w.2 }) ≡ r
+unfolding flagged rtt_words
+rtt_kept None = refl
+rtt_kept (Some e) = refl
 
 config-kept : (c : Config) → config_of (config_words c) ≡ c
 unfolding config_of config_words
@@ -59,28 +60,28 @@ unfolding flag
 flag_reads false = refl
 flag_reads true = refl
 
-last_reads : (l : LastReceived) → leb (last_words l).has 1 ≡ true
+last_reads : (l : Option Received) → leb (last_words l).0 1 ≡ true
 unfolding last_words
-last_reads LastReceived.None = refl
-last_reads (LastReceived.Some r) = refl
+last_reads None = refl
+last_reads (Some r) = refl
 
-returned_reads : (l : OptNumber) → leb (returned_words l).has 1 ≡ true
+returned_reads : (l : Option ExtendedSequenceNumber) → leb (returned_words l).0 1 ≡ true
 unfolding returned_words
-returned_reads OptNumber.None = refl
-returned_reads (OptNumber.Some n) = refl
+returned_reads None = refl
+returned_reads (Some n) = refl
 
-rtt_reads : (r : OptRtt) → leb (rtt_words r).has 1 ≡ true
+rtt_reads : (r : Option RtxRtt) → leb (rtt_words r).0 1 ≡ true
 unfolding rtt_words
-rtt_reads OptRtt.None = refl
-rtt_reads (OptRtt.Some e) = refl
+rtt_reads None = refl
+rtt_reads (Some e) = refl
 
 config_reads : (c : Config) → config_readable (config_words c) ≡ true
 unfolding config_readable config_words
 config_reads c = rw (mode_reads c.settings.mode, flag_reads c.senders.has_rtx)
 
-pub words-kept : Kept
+pub words_kept : Kept
 unfolding readable session_of queue_of words_of
-words-kept =
+words_kept =
     record {
       stays_readable = λ s. rw (config_reads s.queue.config, last_reads s.queue.last, returned_reads s.queue.returned, rtt_reads s.queue.rtx.rtt);
       floats_fit = λ w. record { rate_fits = of_bits-fits binary64 _; jitter_fits = of_bits-fits binary64 _; loss_fits = of_bits-fits binary32 _ };

@@ -1,17 +1,13 @@
 -- What an answer is in words. "Each refusal returns its number only": whatever an answer does not tell is 0.
-use Rattle.std.specs.Prelude.{Bool, cond, List, [], ◌∷◌, ℕ, length}
-use Rattle.rtp.specs.declared.opt.Opt.{Opt}
-use Rattle.rtp.specs.declared.opt.Opt.TheVariants.{None, Some}
-use Rattle.nack_pairs.specs.declared.read.ReadAnswer.{ReadAnswer}
+use Rattle.std.specs.Prelude.{Bool, cond, List, [], ◌∷◌, ℕ, length, Option, None, Some, Result, Ok, Err}
+use Rattle.stats.specs.declared.RtpInboundRtxStats.{RtpInboundRtxStats}
 use Rattle.packet_loss.specs.Loss.{zero32}
-use Rattle.stats.specs.declared.OptRtxStats.{OptRtxStats}
 use Rattle.model.specs.declared.Session.{Session}
 use Rattle.model.specs.Push.{Fate, recovered, redundant, too_late}
 use Rattle.model.specs.Calls as Calls
 use Rattle.model.specs.Calls.{Answer}
 use Rattle.model.specs.Did as Did
 use Rattle.ffi_words.specs.declared.SessionWords.{SessionWords}
-use Rattle.ffi_words.specs.declared.answers.OptWords.{OptWords}
 use Rattle.ffi_words.specs.declared.answers.Opened.{Opened}
 use Rattle.ffi_words.specs.declared.answers.Pushed.{Pushed}
 use Rattle.ffi_words.specs.declared.answers.Packet.{Packet}
@@ -28,7 +24,7 @@ use Rattle.ffi_words.specs.Words.{flag, words_of, no_session}
 
 -- ---- what an answer tells
 
-unfoldable pub refusal_in : Answer → Opt
+unfoldable pub refusal_in : Answer → Option ℕ
 refusal_in (Calls.refused k) = Some k
 refusal_in Calls.queued = None
 refusal_in Calls.dropped = None
@@ -47,7 +43,7 @@ fate_number redundant = 1
 fate_number too_late = 2
 
 -- the number that it is or has
-unfoldable pub number_in : Answer → Opt
+unfoldable pub number_in : Answer → Option ℕ
 number_in (Calls.refused k) = None
 number_in Calls.queued = Some 0
 number_in Calls.dropped = Some 1
@@ -74,44 +70,44 @@ packet_in (Calls.timeout t) = []
 packet_in (Calls.stats f) = []
 packet_in (Calls.highest n) = []
 
-unfoldable pub stats_in : Answer → OptRtxStats
-stats_in (Calls.refused k) = OptRtxStats.None
-stats_in Calls.queued = OptRtxStats.None
-stats_in Calls.dropped = OptRtxStats.None
-stats_in (Calls.repaired f) = OptRtxStats.None
-stats_in Calls.nothing = OptRtxStats.None
-stats_in (Calls.packet p) = OptRtxStats.None
-stats_in (Calls.nack n) = OptRtxStats.None
-stats_in (Calls.wire n) = OptRtxStats.None
-stats_in (Calls.timeout t) = OptRtxStats.None
+unfoldable pub stats_in : Answer → Option RtpInboundRtxStats
+stats_in (Calls.refused k) = None
+stats_in Calls.queued = None
+stats_in Calls.dropped = None
+stats_in (Calls.repaired f) = None
+stats_in Calls.nothing = None
+stats_in (Calls.packet p) = None
+stats_in (Calls.nack n) = None
+stats_in (Calls.wire n) = None
+stats_in (Calls.timeout t) = None
 stats_in (Calls.stats f) = f
-stats_in (Calls.highest n) = OptRtxStats.None
+stats_in (Calls.highest n) = None
 
 -- ---- as words
 
-unfoldable pub opt_words : Opt → OptWords
-opt_words None = record { has = 0; value = 0 }
-opt_words (Some n) = record { has = 1; value = n }
+unfoldable pub opt_words : Option ℕ → ℕ × ℕ
+opt_words None = (0, 0)
+opt_words (Some n) = (1, n)
 
-abbrev pub has? : Opt → ℕ
-has? o = (opt_words o).has
+abbrev pub has? : Option ℕ → ℕ
+has? o = (opt_words o).0
 
-abbrev pub value_of : Opt → ℕ
-value_of o = (opt_words o).value
+abbrev pub value_of : Option ℕ → ℕ
+value_of o = (opt_words o).1
 
 unfoldable pub packet_words : List Calls.Packet → Packet
 packet_words [] = record { has_received_at = 0; received_at = 0; delay = 0; size = 0; timestamp = 0; ssrc = 0; sequence_number = 0; pt = 0; marker = 0 }
 packet_words (p ∷ ps) =
     record { has_received_at = has? p.arrival; received_at = value_of p.arrival; delay = p.delay; size = p.size; timestamp = p.timestamp; ssrc = p.ssrc; sequence_number = p.number; pt = p.pt; marker = flag p.marker }
 
-unfoldable pub stats_words : ℕ → OptRtxStats → RtxStats
-stats_words refusal OptRtxStats.None =
+unfoldable pub stats_words : ℕ → Option RtpInboundRtxStats → RtxStats
+stats_words refusal None =
     record { refusal = refusal; has_stats = 0; packets_received_in_time = 0; packets_received_too_late = 0; packets_received_redundant = 0; bytes_received = 0; has_rtt = 0; rtt = 0 }
-stats_words refusal (OptRtxStats.Some f) =
+stats_words refusal (Some f) =
     record { refusal = refusal; has_stats = 1; packets_received_in_time = f.packets_received_in_time; packets_received_too_late = f.packets_received_too_late; packets_received_redundant = f.packets_received_redundant; bytes_received = f.bytes_received; has_rtt = has? f.rtt; rtt = value_of f.rtt }
 
 -- a refused call gives the words of the session back as they came
-unfoldable pub session_after : Opt → SessionWords → Session → SessionWords
+unfoldable pub session_after : Option ℕ → SessionWords → Session → SessionWords
 session_after None given left = words_of left
 session_after (Some k) given left = given
 
@@ -149,9 +145,9 @@ unfoldable pub highest_told : Answer → Highest
 highest_told a = record { refusal = value_of (refusal_in a); has_number = has? (number_in a); number = value_of (number_in a) }
 
 -- that of the reader of NACK entries, which has no session
-unfoldable pub numbers_told : ReadAnswer → ReadNumbers
-numbers_told (ReadAnswer.Numbers n) = record { refusal = 0; numbers = n }
-numbers_told (ReadAnswer.Refused k) = record { refusal = k; numbers = 0 }
+unfoldable pub numbers_told : Result ℕ ℕ → ReadNumbers
+numbers_told (Ok n) = record { refusal = 0; numbers = n }
+numbers_told (Err k) = record { refusal = k; numbers = 0 }
 
 -- the opening has no words to give back
 unfoldable pub open_told : Did.Opening → Opened

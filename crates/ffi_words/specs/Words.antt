@@ -1,20 +1,17 @@
 -- A session and its settings as plain numbers: which words are readable, what they stand for, and how a session is written in them. A float is
 -- its bits (IEEE 754, 3.4).
-use Rattle.std.specs.Prelude.{◌≡◌, Bool, true, false, ◌&&◌, cond, ℕ, T, eqb, leb}
+use Rattle.std.specs.Prelude.{◌≡◌, Bool, true, false, ◌&&◌, cond, ℕ, T, eqb, leb, Option, None, Some}
 use Rattle.std.specs.Float.{binary32, binary64}
 use Rattle.std.specs.Float.Ieee.{of_bits, to_bits, fits}
-use Rattle.rtp.specs.declared.opt.OptNumber.{OptNumber}
-use Rattle.rtx_state.specs.declared.OptRtt.{OptRtt}
+use Rattle.rtp.specs.declared.ExtendedSequenceNumber.{ExtendedSequenceNumber}
+use Rattle.rtx_state.specs.declared.RtxRtt.{RtxRtt}
+use Rattle.model.specs.declared.Received.{Received}
 use Rattle.config.specs.Mode.{mode_of, mode_number, dynamic_of}
 use Rattle.model.specs.declared.Config.{Config}
-use Rattle.model.specs.declared.LastReceived.{LastReceived}
 use Rattle.model.specs.declared.Queue.{Queue}
 use Rattle.model.specs.declared.Session.{Session}
 use Rattle.ffi_words.specs.declared.ConfigWords.{ConfigWords}
 use Rattle.ffi_words.specs.declared.SessionWords.{SessionWords}
-use Rattle.ffi_words.specs.declared.LastWords.{LastWords}
-use Rattle.ffi_words.specs.declared.ReturnedWords.{ReturnedWords}
-use Rattle.ffi_words.specs.declared.RttWords.{RttWords}
 
 -- ---- words that can be read: each flag is 0 or 1, and the mode 0 to 2
 
@@ -34,25 +31,20 @@ config_of c =
       senders = record { pt = c.pt; ssrc = record { 0 = c.ssrc }; has_rtx = eqb c.has_rtx 1; rtx_pt = c.rtx_pt; rtx_ssrc = record { 0 = c.rtx_ssrc } };
     }
 
-unfoldable pub last_of : LastWords → LastReceived
-last_of w = cond (eqb w.has 0) LastReceived.None (LastReceived.Some (record { instant = w.instant; timestamp = record { 0 = w.timestamp }; number = record { 0 = w.number } }))
-
-unfoldable pub returned_of : ReturnedWords → OptNumber
-returned_of w = cond (eqb w.has 0) OptNumber.None (OptNumber.Some (record { 0 = w.number }))
-
-unfoldable pub rtt_of : RttWords → OptRtt
-rtt_of w = cond (eqb w.has 0) OptRtt.None (OptRtt.Some (record { srtt = w.srtt; variation = w.variation }))
+-- a value that may be missing, beside its flag
+unfoldable pub flagged : {A : Type 0} → ℕ → A → Option A
+flagged flag a = cond (eqb flag 0) None (Some a)
 
 unfoldable pub queue_of : SessionWords → Queue
 queue_of w =
     record {
       config = config_of w.config;
       clock = w.clock;
-      last = last_of (record { has = w.has_last; instant = w.last_instant; timestamp = w.last_timestamp; number = w.last_number });
-      returned = returned_of (record { has = w.has_returned; number = w.returned });
+      last = flagged w.has_last (record { instant = w.last_instant; timestamp = record { 0 = w.last_timestamp }; number = record { 0 = w.last_number } });
+      returned = flagged w.has_returned (record { 0 = w.returned });
       rtx =
           record {
-            rtt = rtt_of (record { has = w.has_rtt; srtt = w.srtt; variation = w.variation });
+            rtt = flagged w.has_rtt (record { srtt = w.srtt; variation = w.variation });
             received_in_time = w.rtx_in_time;
             received_too_late = w.rtx_too_late;
             received_redundant = w.rtx_redundant;
@@ -65,6 +57,10 @@ queue_of w =
 
 unfoldable pub session_of : SessionWords → Session
 session_of w = record { queue = queue_of w; entries = w.entries; gaps = w.gaps; remembered = w.remembered }
+
+-- what is read: nothing of words that cannot be read
+unfoldable pub read : SessionWords → Option Session
+read w = cond (readable w) (Some (session_of w)) None
 
 -- ---- how they are written
 
@@ -96,17 +92,18 @@ config_words c =
       rtx_pt = who.rtx_pt;
     }
 
-unfoldable pub last_words : LastReceived → LastWords
-last_words LastReceived.None = record { has = 0; instant = 0; timestamp = 0; number = 0 }
-last_words (LastReceived.Some r) = record { has = 1; instant = r.instant; timestamp = r.timestamp.0; number = r.number.0 }
+-- each a flag and what stands beside it
+unfoldable pub last_words : Option Received → ℕ × ℕ × ℕ × ℕ
+last_words None = (0, 0, 0, 0)
+last_words (Some r) = (1, r.instant, r.timestamp.0, r.number.0)
 
-unfoldable pub returned_words : OptNumber → ReturnedWords
-returned_words OptNumber.None = record { has = 0; number = 0 }
-returned_words (OptNumber.Some n) = record { has = 1; number = n.0 }
+unfoldable pub returned_words : Option ExtendedSequenceNumber → ℕ × ℕ
+returned_words None = (0, 0)
+returned_words (Some n) = (1, n.0)
 
-unfoldable pub rtt_words : OptRtt → RttWords
-rtt_words OptRtt.None = record { has = 0; srtt = 0; variation = 0 }
-rtt_words (OptRtt.Some e) = record { has = 1; srtt = e.srtt; variation = e.variation }
+unfoldable pub rtt_words : Option RtxRtt → ℕ × ℕ × ℕ
+rtt_words None = (0, 0, 0)
+rtt_words (Some e) = (1, e.srtt, e.variation)
 
 unfoldable pub words_of : Session → SessionWords
 words_of s =
@@ -117,15 +114,15 @@ words_of s =
     record {
       config = config_words q.config;
       clock = q.clock;
-      has_last = last.has;
-      last_instant = last.instant;
-      last_timestamp = last.timestamp;
-      last_number = last.number;
-      has_returned = returned.has;
-      returned = returned.number;
-      has_rtt = rtt.has;
-      srtt = rtt.srtt;
-      variation = rtt.variation;
+      has_last = last.0;
+      last_instant = last.1;
+      last_timestamp = last.2;
+      last_number = last.3;
+      has_returned = returned.0;
+      returned = returned.1;
+      has_rtt = rtt.0;
+      srtt = rtt.1;
+      variation = rtt.2;
       rtx_in_time = q.rtx.received_in_time;
       rtx_too_late = q.rtx.received_too_late;
       rtx_redundant = q.rtx.received_redundant;

@@ -1,25 +1,31 @@
 // What the calls that only read answer; `refusal` and what is not told are as in answers.rt.
+#![tactic(auto, unfolding(crate::specs::Told::timeout_told, crate::specs::Told::stats_told, crate::specs::Told::highest_told, crate::specs::Told::numbers_told, crate::specs::Told::no_figures, crate::specs::Told::refusal_in, crate::specs::Told::number_in, rtp::specs::Opt::number_of, crate::specs::Told::stats_in, crate::specs::Told::opt_words, crate::specs::Told::stats_words))]
+
 ghost use Rattle.std.specs.Prelude.{◌≡◌};
 ghost use Rattle.model.specs.Calls as Calls;
-ghost use Rattle.queue.specs.Answers.{timeout_answer, stats_answer, highest_answer};
+ghost use Rattle.refusals.specs.Refusals.{number, numbered};
+ghost use Rattle.model.specs.Contract.{said};
+ghost use Rattle.queue.specs.Answers.{highest_answer};
 ghost use Rattle.ffi_words.specs.Told.{stats_words, timeout_told, stats_told, highest_told, numbers_told, no_figures};
 
 use super::answers;
-use nack_pairs::read::ReadAnswer;
-use queue::{HighestAnswer, StatsAnswer, TimeoutAnswer};
-use stats::OptRtxStats;
+use refusals::Refusal;
+use rtp::ExtendedSequenceNumber;
+use stats::RtpInboundRtxStats;
 
 // Nanoseconds.
+// Stays: of the C interface.
 #[repr(C)]
-#[derive(Clone, Copy)]
+#[derive(Clone, Copy, Default)]
 pub struct Timeout {
     pub refusal: u64,
     pub has_timeout: u64,
     pub timeout: u64,
 }
 
+// Stays: of the C interface.
 #[repr(C)]
-#[derive(Clone, Copy)]
+#[derive(Clone, Copy, Default)]
 pub struct RtxStats {
     pub refusal: u64,
     pub has_stats: u64,
@@ -31,8 +37,9 @@ pub struct RtxStats {
     pub rtt: u64,
 }
 
+// Stays: of the C interface.
 #[repr(C)]
-#[derive(Clone, Copy)]
+#[derive(Clone, Copy, Default)]
 pub struct Highest {
     pub refusal: u64,
     pub has_number: u64,
@@ -40,8 +47,9 @@ pub struct Highest {
 }
 
 // The inbound stream: 000's counters as they stand, the jitter in nanoseconds.
+// Stays: of the C interface.
 #[repr(C)]
-#[derive(Clone, Copy)]
+#[derive(Clone, Copy, Default)]
 pub struct Figures {
     pub refusal: u64,
     pub packets_received: u64,
@@ -53,16 +61,18 @@ pub struct Figures {
 }
 
 // How many numbers the entries of a generic NACK name.
+// Stays: of the C interface.
 #[repr(C)]
-#[derive(Clone, Copy)]
+#[derive(Clone, Copy, Default)]
 pub struct ReadNumbers {
     pub refusal: u64,
     pub numbers: usize,
 }
 
 // Elements of the lent slices.
+// Stays: of the C interface.
 #[repr(C)]
-#[derive(Clone, Copy)]
+#[derive(Clone, Copy, Default)]
 pub struct Lengths {
     pub refusal: u64,
     pub entries: usize,
@@ -71,55 +81,49 @@ pub struct Lengths {
     pub remembered: usize,
 }
 
-pub fn timeout_refused(refusal: u64) -> Timeout
-    ensures { result ≡ timeout_told (Calls.refused refusal) }
+// Stays: each fills the struct of its exported call.
+pub fn timeout_refused(refusal: Refusal) -> Timeout
+    ensures { result ≡ timeout_told (Calls.refused (number refusal)) }
 {
     Timeout {
-        refusal,
-        has_timeout: 0,
-        timeout: 0,
+        refusal: refusal.number(),
+        ..Timeout::default()
     }
 }
 
-pub fn timeout_told(answer: TimeoutAnswer) -> Timeout
-    ensures { result ≡ timeout_told (timeout_answer answer) }
+pub fn timeout_told(answer: Result<Option<u64>, Refusal>) -> Timeout
+    ensures { result ≡ timeout_told (said Calls.timeout answer) }
 {
     match answer {
-        TimeoutAnswer::Timeout(t) => {
-            let words = answers::opt_words(t);
+        Ok(t) => {
+            let (has_timeout, timeout) = answers::opt_words(t);
             Timeout {
                 refusal: 0,
-                has_timeout: words.has,
-                timeout: words.value,
+                has_timeout,
+                timeout,
             }
         }
-        TimeoutAnswer::Refused(k) => timeout_refused(k),
+        Err(e) => timeout_refused(e),
     }
 }
 
-pub fn stats_refused(refusal: u64) -> RtxStats
-    ensures { result ≡ stats_told (Calls.refused refusal) }
+// Stays: each fills the struct of its exported call.
+pub fn stats_refused(refusal: Refusal) -> RtxStats
+    ensures { result ≡ stats_told (Calls.refused (number refusal)) }
 {
     RtxStats {
-        refusal,
-        has_stats: 0,
-        packets_received_in_time: 0,
-        packets_received_too_late: 0,
-        packets_received_redundant: 0,
-        bytes_received: 0,
-        has_rtt: 0,
-        rtt: 0,
+        refusal: refusal.number(),
+        ..RtxStats::default()
     }
 }
 
-fn stats_words(stats: OptRtxStats) -> RtxStats
+fn stats_words(stats: Option<RtpInboundRtxStats>) -> RtxStats
     ensures { result ≡ stats_words 0 stats }
 {
     match stats {
-        OptRtxStats::None => stats_refused(0),
-        OptRtxStats::Some(f) => {
-            let trip = f.rtt;
-            let words = answers::opt_words(trip);
+        None => RtxStats::default(),
+        Some(f) => {
+            let (has_rtt, rtt) = answers::opt_words(f.rtt);
             RtxStats {
                 refusal: 0,
                 has_stats: 1,
@@ -127,70 +131,73 @@ fn stats_words(stats: OptRtxStats) -> RtxStats
                 packets_received_too_late: f.packets_received_too_late,
                 packets_received_redundant: f.packets_received_redundant,
                 bytes_received: f.bytes_received,
-                has_rtt: words.has,
-                rtt: words.value,
+                has_rtt,
+                rtt,
             }
         }
     }
 }
 
-pub fn stats_told(answer: StatsAnswer) -> RtxStats
-    ensures { result ≡ stats_told (stats_answer answer) }
+// Stays: each fills the struct of its exported call.
+pub fn stats_told(answer: Result<Option<RtpInboundRtxStats>, Refusal>) -> RtxStats
+    ensures { result ≡ stats_told (said Calls.stats answer) }
 {
     match answer {
-        StatsAnswer::Stats(stats) => stats_words(stats),
-        StatsAnswer::Refused(k) => stats_refused(k),
+        Ok(stats) => stats_words(stats),
+        Err(e) => stats_refused(e),
     }
 }
 
-pub fn highest_refused(refusal: u64) -> Highest
-    ensures { result ≡ highest_told (Calls.refused refusal) }
+pub fn highest_refused(refusal: Refusal) -> Highest
+    ensures { result ≡ highest_told (Calls.refused (number refusal)) }
 {
     Highest {
-        refusal,
-        has_number: 0,
-        number: 0,
+        refusal: refusal.number(),
+        ..Highest::default()
     }
 }
 
-pub fn highest_told(answer: HighestAnswer) -> Highest
-    ensures { result ≡ highest_told (highest_answer answer) }
+fn highest_words(highest: Option<ExtendedSequenceNumber>) -> Highest
+    ensures { result ≡ highest_told (highest_answer highest) }
 {
-    match answer {
-        HighestAnswer::None => highest_refused(0),
-        HighestAnswer::Number(n) => Highest {
+    match highest {
+        None => Highest::default(),
+        Some(n) => Highest {
             refusal: 0,
             has_number: 1,
             number: n.0,
         },
-        HighestAnswer::Refused(k) => highest_refused(k),
     }
 }
 
-pub fn figures_refused(refusal: u64) -> Figures
-    ensures { result ≡ no_figures refusal }
-{
-    Figures {
-        refusal,
-        packets_received: 0,
-        packets_dropped: 0,
-        packets_lost: 0,
-        bytes_received: 0,
-        jitter: 0,
-        loss: 0.0,
-    }
-}
-
-pub fn numbers_told(answer: ReadAnswer) -> ReadNumbers
-    ensures { result ≡ numbers_told answer }
+pub fn highest_told(answer: Result<Option<ExtendedSequenceNumber>, Refusal>) -> Highest
+    ensures { result ≡ highest_told (said highest_answer answer) }
 {
     match answer {
-        ReadAnswer::Numbers(n) => ReadNumbers {
+        Ok(highest) => highest_words(highest),
+        Err(e) => highest_refused(e),
+    }
+}
+
+pub fn figures_refused(refusal: Refusal) -> Figures
+    ensures { result ≡ no_figures (number refusal) }
+{
+    Figures {
+        refusal: refusal.number(),
+        ..Figures::default()
+    }
+}
+
+pub fn numbers_told(answer: Result<usize, Refusal>) -> ReadNumbers
+    ensures { result ≡ numbers_told (numbered answer) }
+{
+    match answer {
+        Ok(numbers) => ReadNumbers {
             refusal: 0,
-            numbers: n,
+            numbers,
         },
-        ReadAnswer::Refused(k) => ReadNumbers {
-            refusal: k,
+        Err(e) => ReadNumbers {
+            refusal: e.number(),
             numbers: 0,
         },
     }

@@ -1,7 +1,7 @@
 // The session and its settings as they cross the boundary: plain numbers, no bool, no enum and no float. A flag is a word, 0 or 1. Where the
 // flag of a record is 0, its values are not looked at, and are 0 in what comes back; settings beside `has_rtx` stay as they are. A float is its
 // bits: a NaN has many, which a refused call gives back as they came.
-#![tactic(auto)]
+#![tactic(auto, unfolding(crate::specs::Words::config_readable, crate::specs::Words::readable, crate::specs::Words::config_of, crate::specs::Words::flagged, crate::specs::Words::queue_of, crate::specs::Words::session_of, crate::specs::Words::read))]
 
 ghost use Rattle.std.specs.Prelude.{◌≡◌};
 ghost use Rattle.ffi_words.specs.Words as Words;
@@ -9,21 +9,21 @@ ghost use Rattle.ffi_words.specs.Words.{Kept};
 
 use config::{RtpInboundStreamDynamicConfig, Senders, Settings};
 use jitter::Jitter;
-use model::{Config, Counters, LastReceived, Queue, Received, Session};
+use model::{Config, Counters, Queue, Received, Session};
 use packet_loss::PacketLoss;
-use rtp::opt::OptNumber;
 use rtp::{ExtendedRtpTimestamp, ExtendedSequenceNumber, Ssrc};
-use rtx_state::{OptRtt, RtxRtt, RtxState};
+use rtx_state::{RtxRtt, RtxState};
+use std::num::{f32_from_bits_with_nan, f64_from_bits_with_nan};
 
 pub mod answers;
 pub mod figures;
-mod floats;
 pub mod writing;
 
 // `mode` is 0 for Passthrough, 1 for SortedQueue with a Fixed delay, 2 with a Dynamic one. `min_delay`, `max_delay` and `target_recovery` are
 // those of mode 2: in another they are not looked at, and are 0 in what comes back.
+// Stays: of the C interface.
 #[repr(C)]
-#[derive(Clone, Copy)]
+#[derive(Clone, Copy, Default)]
 pub struct ConfigWords {
     pub delay: u64,
     pub initial_nack_delay: u64,
@@ -43,8 +43,9 @@ pub struct ConfigWords {
     pub rtx_pt: u8,
 }
 
+// Stays: of the C interface.
 #[repr(C)]
-#[derive(Clone, Copy)]
+#[derive(Clone, Copy, Default)]
 pub struct SessionWords {
     pub config: ConfigWords,
     pub clock: u64,
@@ -73,28 +74,6 @@ pub struct SessionWords {
     pub loss_bits: u32,
 }
 
-// A record that may be missing, as a flag and its values.
-#[derive(Clone, Copy)]
-pub struct LastWords {
-    pub has: u64,
-    pub instant: u64,
-    pub timestamp: u64,
-    pub number: u64,
-}
-
-#[derive(Clone, Copy)]
-pub struct ReturnedWords {
-    pub has: u64,
-    pub number: u64,
-}
-
-#[derive(Clone, Copy)]
-pub struct RttWords {
-    pub has: u64,
-    pub srtt: u64,
-    pub variation: u64,
-}
-
 pub fn config_readable(c: ConfigWords) -> bool
     ensures { result ≡ Words.config_readable c }
 {
@@ -102,13 +81,14 @@ pub fn config_readable(c: ConfigWords) -> bool
 }
 
 // Each flag is 0 or 1, and the mode 0 to 2.
-pub fn readable(s: SessionWords) -> bool
+fn readable(s: SessionWords) -> bool
     ensures { result ≡ Words.readable s }
 {
-    let config = s.config;
-    config_readable(config) & (s.has_last <= 1) & (s.has_returned <= 1) & (s.has_rtt <= 1)
+    config_readable(s.config) & (s.has_last <= 1) & (s.has_returned <= 1) & (s.has_rtt <= 1)
 }
 
+// Stays: settings_words builds settings of the same numbers, here and in writing.rt, but each struct of C has fields of its own: to copy eleven
+// of them into the other struct is no shorter than to build the settings.
 pub fn config_of(c: ConfigWords) -> Config
     ensures { result ≡ Words.config_of c }
 {
@@ -117,7 +97,7 @@ pub fn config_of(c: ConfigWords) -> Config
         max: c.max_delay,
         target_recovery: c.target_recovery,
     };
-    let mode = config::mode_of(c.mode as u64, dynamic);
+    let mode = config::mode_of(u64::from(c.mode), dynamic);
     let settings = Settings {
         mode,
         clock_rate: c.clock_rate,
@@ -138,52 +118,34 @@ pub fn config_of(c: ConfigWords) -> Config
     Config { settings, senders }
 }
 
-fn last_of(w: LastWords) -> LastReceived
-    ensures { result ≡ Words.last_of w }
+// A value that may be missing, from its flag.
+fn flagged<T: Drop>(flag: u64, value: T) -> Option<T>
+    ensures { result ≡ Words.flagged flag value }
 {
-    if w.has == 0 {
-        return LastReceived::None;
-    }
-    let received = Received {
-        instant: w.instant,
-        timestamp: ExtendedRtpTimestamp(w.timestamp),
-        number: ExtendedSequenceNumber(w.number),
+    (flag != 0).then_some(value)
+}
+
+fn last_of(s: SessionWords) -> Option<Received>
+    ensures { result ≡ (Words.queue_of s).last }
+{
+    let last = Received {
+        instant: s.last_instant,
+        timestamp: ExtendedRtpTimestamp(s.last_timestamp),
+        number: ExtendedSequenceNumber(s.last_number),
     };
-    LastReceived::Some(received)
+    flagged(s.has_last, last)
 }
 
-fn returned_of(w: ReturnedWords) -> OptNumber
-    ensures { result ≡ Words.returned_of w }
-{
-    if w.has == 0 {
-        return OptNumber::None;
-    }
-    OptNumber::Some(ExtendedSequenceNumber(w.number))
-}
-
-fn rtt_of(w: RttWords) -> OptRtt
-    ensures { result ≡ Words.rtt_of w }
-{
-    if w.has == 0 {
-        return OptRtt::None;
-    }
-    OptRtt::Some(RtxRtt {
-        srtt: w.srtt,
-        variation: w.variation,
-    })
-}
-
+// Stays: a part of `session_of`, whose contract names each part.
 fn rtx_of(s: SessionWords) -> RtxState
     ensures { result ≡ (Words.queue_of s).rtx }
 {
-    let estimate = RttWords {
-        has: s.has_rtt,
+    let estimate = RtxRtt {
         srtt: s.srtt,
         variation: s.variation,
     };
-    let rtt = rtt_of(estimate);
     RtxState {
-        rtt,
+        rtt: flagged(s.has_rtt, estimate),
         received_in_time: s.rtx_in_time,
         received_too_late: s.rtx_too_late,
         received_redundant: s.rtx_redundant,
@@ -191,64 +153,59 @@ fn rtx_of(s: SessionWords) -> RtxState
     }
 }
 
+// Stays: a part of `session_of`.
 fn jitter_of(s: SessionWords) -> Jitter
     ensures { result ≡ (Words.queue_of s).jitter }
 {
-    let clock_rate = floats::f64_of(s.jitter_clock_rate_bits);
-    let jitter = floats::f64_of(s.jitter_bits);
+    let clock_rate = f64_from_bits_with_nan(s.jitter_clock_rate_bits);
+    let jitter = f64_from_bits_with_nan(s.jitter_bits);
     Jitter { clock_rate, jitter }
 }
 
-pub fn queue_of(s: SessionWords) -> Queue
+// Stays: a part of `session_of`, and of the figures.
+fn queue_of(s: SessionWords) -> Queue
     ensures { result ≡ Words.queue_of s }
 {
-    let config = config_of(s.config);
-    let highest = LastWords {
-        has: s.has_last,
-        instant: s.last_instant,
-        timestamp: s.last_timestamp,
-        number: s.last_number,
-    };
-    let last = last_of(highest);
-    let passed = ReturnedWords {
-        has: s.has_returned,
-        number: s.returned,
-    };
-    let returned = returned_of(passed);
-    let rtx = rtx_of(s);
     let counters = Counters {
         dropped: s.dropped,
         received: s.received,
         bytes: s.bytes,
         lost: s.lost,
     };
-    let jitter = jitter_of(s);
-    let loss = floats::f32_of(s.loss_bits);
+    let loss = f32_from_bits_with_nan(s.loss_bits);
     Queue {
-        config,
+        config: config_of(s.config),
         clock: s.clock,
-        last,
-        returned,
-        rtx,
+        last: last_of(s),
+        returned: flagged(s.has_returned, ExtendedSequenceNumber(s.returned)),
+        rtx: rtx_of(s),
         counters,
-        jitter,
+        jitter: jitter_of(s),
         loss: PacketLoss { loss },
     }
 }
 
+// Stays: it is asked only of words that are readable, which `TryFrom` could not leave out.
 pub fn session_of(s: SessionWords) -> Session
     ensures { result ≡ Words.session_of s }
 {
-    let queue = queue_of(s);
     Session {
-        queue,
+        queue: queue_of(s),
         entries: s.entries,
         gaps: s.gaps,
         remembered: s.remembered,
     }
 }
 
+// The session that the words stand for, where they can be read.
+pub fn read(s: SessionWords) -> Option<Session>
+    ensures { result ≡ Words.read s }
+{
+    readable(s).then(|| session_of(s))
+}
+
 // What a call writes, the next one reads as it was.
+#[tactic(auto, using(crate::proofs::Kept::words_kept))]
 pub fn words_are_kept()
     ensures { Kept }
 {}

@@ -1,19 +1,16 @@
 // A session and its settings written as words.
+#![tactic(auto, unfolding(crate::specs::Words::flag, crate::specs::Words::config_words, crate::specs::Words::last_words, crate::specs::Words::returned_words, crate::specs::Words::rtt_words, crate::specs::Words::words_of, crate::specs::Words::no_config, crate::specs::Words::no_session))]
+
 ghost use Rattle.std.specs.Prelude.{◌≡◌};
 ghost use Rattle.ffi_words.specs.Words as Words;
-ghost use Rattle.ffi_words.specs.Words.{flag};
 
-use super::{ConfigWords, LastWords, ReturnedWords, RttWords, SessionWords, floats};
-use model::{Config, LastReceived, Queue, Session};
-use rtp::opt::OptNumber;
-use rtx_state::{OptRtt, RtxState};
+use super::{ConfigWords, SessionWords};
+use model::{Config, Received, Session};
+use rtp::ExtendedSequenceNumber;
+use rtx_state::RtxRtt;
+use std::num::{f32_to_bits_with_nan, f64_to_bits_with_nan};
 
-fn flag32(b: bool) -> u32
-    ensures { result ≡ flag b }
-{
-    if b { 1 } else { 0 }
-}
-
+// Stays: a part of `words_of`.
 fn config_words(c: Config) -> ConfigWords
     ensures { result ≡ Words.config_words c }
 {
@@ -33,7 +30,7 @@ fn config_words(c: Config) -> ConfigWords
         clock_rate: settings.clock_rate,
         max_nack_attempts: settings.max_nack_attempts,
         mode: mode.number(),
-        has_rtx: flag32(senders.has_rtx),
+        has_rtx: u32::from(senders.has_rtx),
         ssrc: senders.ssrc.0,
         rtx_ssrc: senders.rtx_ssrc.0,
         pt: senders.pt,
@@ -41,80 +38,50 @@ fn config_words(c: Config) -> ConfigWords
     }
 }
 
-fn last_words(q: Queue) -> LastWords
-    ensures { result ≡ Words.last_words q.last }
+fn last_words(last: Option<Received>) -> (u64, u64, u64, u64)
+    ensures { result ≡ Words.last_words last }
 {
-    let last = q.last;
-    match last {
-        LastReceived::None => LastWords {
-            has: 0,
-            instant: 0,
-            timestamp: 0,
-            number: 0,
-        },
-        LastReceived::Some(r) => LastWords {
-            has: 1,
-            instant: r.instant,
-            timestamp: r.timestamp.0,
-            number: r.number.0,
-        },
-    }
+    last.map_or((0, 0, 0, 0), |r| {
+        (1, r.instant, r.timestamp.0, r.number.0)
+    })
 }
 
-fn returned_words(q: Queue) -> ReturnedWords
-    ensures { result ≡ Words.returned_words q.returned }
+fn returned_words(returned: Option<ExtendedSequenceNumber>) -> (u64, u64)
+    ensures { result ≡ Words.returned_words returned }
 {
-    let returned = q.returned;
-    match returned {
-        OptNumber::None => ReturnedWords { has: 0, number: 0 },
-        OptNumber::Some(n) => ReturnedWords {
-            has: 1,
-            number: n.0,
-        },
-    }
+    returned.map_or((0, 0), |n| (1, n.0))
 }
 
-fn rtt_words(rtx: RtxState) -> RttWords
-    ensures { result ≡ Words.rtt_words rtx.rtt }
+fn rtt_words(rtt: Option<RtxRtt>) -> (u64, u64, u64)
+    ensures { result ≡ Words.rtt_words rtt }
 {
-    let rtt = rtx.rtt;
-    match rtt {
-        OptRtt::None => RttWords {
-            has: 0,
-            srtt: 0,
-            variation: 0,
-        },
-        OptRtt::Some(e) => RttWords {
-            has: 1,
-            srtt: e.srtt,
-            variation: e.variation,
-        },
-    }
+    rtt.map_or((0, 0, 0), |e| (1, e.srtt, e.variation))
 }
 
+// Stays: the name says that these are words; `into` would not.
 pub fn words_of(s: Session) -> SessionWords
     ensures { result ≡ Words.words_of s }
 {
     let q = s.queue;
-    let config = config_words(q.config);
-    let highest = last_words(q);
-    let passed = returned_words(q);
-    let estimate = rtt_words(q.rtx);
-    let jitter_clock_rate_bits = floats::f64_bits(q.jitter.clock_rate);
-    let jitter_bits = floats::f64_bits(q.jitter.jitter);
-    let loss_bits = floats::f32_bits(q.loss.loss);
+    let (has_last, last_instant, last_timestamp, last_number) = last_words(q.last);
+    let (has_returned, returned) = returned_words(q.returned);
+    let (has_rtt, srtt, variation) = rtt_words(q.rtx.rtt);
+    // One NaN's bits stand for all; no sound session holds one.
+    let jitter_clock_rate_bits = f64_to_bits_with_nan(q.jitter.clock_rate);
+    let jitter_bits = f64_to_bits_with_nan(q.jitter.jitter);
+    let loss_bits = f32_to_bits_with_nan(q.loss.loss);
     SessionWords {
-        config,
+        config: config_words(q.config),
         clock: q.clock,
-        has_last: highest.has,
-        last_instant: highest.instant,
-        last_timestamp: highest.timestamp,
-        last_number: highest.number,
-        has_returned: passed.has,
-        returned: passed.number,
-        has_rtt: estimate.has,
-        srtt: estimate.srtt,
-        variation: estimate.variation,
+        has_last,
+        last_instant,
+        last_timestamp,
+        last_number,
+        has_returned,
+        returned,
+        has_rtt,
+        srtt,
+        variation,
         rtx_in_time: q.rtx.received_in_time,
         rtx_too_late: q.rtx.received_too_late,
         rtx_redundant: q.rtx.received_redundant,
@@ -132,59 +99,9 @@ pub fn words_of(s: Session) -> SessionWords
     }
 }
 
-fn no_config() -> ConfigWords
-    ensures { result ≡ Words.no_config }
-{
-    ConfigWords {
-        delay: 0,
-        initial_nack_delay: 0,
-        default_nack_resend_delay: 0,
-        min_delay: 0,
-        max_delay: 0,
-        target_recovery: 0,
-        max_entries: 0,
-        max_gaps: 0,
-        clock_rate: 0,
-        max_nack_attempts: 0,
-        mode: 0,
-        has_rtx: 0,
-        ssrc: 0,
-        rtx_ssrc: 0,
-        pt: 0,
-        rtx_pt: 0,
-    }
-}
-
 // What a refused opening gives in place of a session.
 pub fn no_session() -> SessionWords
     ensures { result ≡ Words.no_session }
 {
-    let config = no_config();
-    SessionWords {
-        config,
-        clock: 0,
-        has_last: 0,
-        last_instant: 0,
-        last_timestamp: 0,
-        last_number: 0,
-        has_returned: 0,
-        returned: 0,
-        has_rtt: 0,
-        srtt: 0,
-        variation: 0,
-        rtx_in_time: 0,
-        rtx_too_late: 0,
-        rtx_redundant: 0,
-        rtx_bytes: 0,
-        dropped: 0,
-        received: 0,
-        bytes: 0,
-        lost: 0,
-        jitter_clock_rate_bits: 0,
-        jitter_bits: 0,
-        entries: 0,
-        gaps: 0,
-        remembered: 0,
-        loss_bits: 0,
-    }
+    SessionWords::default()
 }

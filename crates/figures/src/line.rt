@@ -1,81 +1,115 @@
-// A line's numbers, and what is written.
-ghost use Rattle.std.specs.Prelude.{◌<◌};
+// A line's numbers, and what is written behind them.
+use config::NackTimings;
+use rtp::ExtendedRtpTimestamp;
+use rtx_state::RtxRtt;
+use stats::RtpInboundRtxStats;
+use std::io::{self, Write};
 
-const STDOUT: i32 = 1;
+// Bytes of a line, and of a number with the blank before it.
+pub(crate) const LENGTH: usize = 128;
 
-// A digit behind what was read so far; anything but a digit is passed over.
-fn digit(value: u64, b: u8) -> u64 {
-    if b < b'0' {
-        return value;
+const FIELD: usize = 21;
+
+// Stays: a line of the input has that length.
+pub(crate) type Line = [u8; LENGTH];
+
+// Stays: a line of the input has six numbers.
+pub(crate) type Numbers = [u64; 6];
+
+// Anything but a digit is passed over, and so are the digits that come when the number has as many as it can have.
+fn number(field: &[u8]) -> u64 {
+    field
+        .iter()
+        .filter_map(|b| char::from(*b).to_digit(10))
+        .fold(0u64, |value, digit| {
+            value
+                .checked_mul(10)
+                .map_or(value, |tenfold| tenfold.wrapping_add(u64::from(digit)))
+        })
+}
+
+// The numbers behind the letter.
+pub(crate) fn numbers(line: &Line) -> Numbers {
+    let mut numbers = [0; 6];
+    for (n, field) in numbers.iter_mut().zip(line[1..].chunks_exact(FIELD)) {
+        *n = number(field);
     }
-    if b'9' < b {
-        return value;
-    }
-    if 1844674407370955161 < value {
-        return value;
-    }
-    std::num::wrapping_add_u64(value * 10, (b - b'0') as u64)
+    numbers
 }
 
-pub(crate) fn field(text: &[u8; 128], k: usize) -> u64
-    requires { k < 6 }
-{
-    let mut value = 0u64;
-    for i in 0..21usize {
-        value = digit(value, text[k * 21 + i + 1]);
-    }
-    value
+// What a line answers: each number behind a blank, floats as their bits, and `-` for what is refused, missing or no number.
+pub(crate) trait Figure {
+    fn write<W: Write>(&self, out: &mut W) -> io::Result<()>;
 }
 
-// The float of a bit pattern.
-pub(crate) fn f64_of(bits: u64) -> f64 {
-    if (bits % 9223372036854775808 / 4503599627370496 == 2047) & (bits % 4503599627370496 != 0) {
-        return 0.0 / 0.0;
-    }
-    f64::from_bits(bits)
-}
-
-pub(crate) fn f32_of(n: u64) -> f32 {
-    let bits = (n % 4294967296) as u32;
-    if (bits % 2147483648 / 8388608 == 255) & (bits % 8388608 != 0) {
-        return 0.0 / 0.0;
-    }
-    f32::from_bits(bits)
-}
-
-fn space() {
-    io::write_all(STDOUT, b" ");
-}
-
-pub(crate) fn end() {
-    io::write_all(STDOUT, b"\n");
-}
-
-pub(crate) fn put(n: u64) {
-    space();
-    io::print_decimal(STDOUT, n);
-}
-
-pub(crate) fn put_none() {
-    io::write_all(STDOUT, b" -");
-}
-
-pub(crate) fn put_f64(x: f64) {
-    if x == x {
-        put(f64::to_bits(x));
-    } else {
-        put_none();
+impl Figure for u64 {
+    fn write<W: Write>(&self, out: &mut W) -> io::Result<()> {
+        write!(out, " {self}")
     }
 }
 
-fn wide(n: u32) -> u64 {
-    n as u64
+impl<T: Figure> Figure for Option<T> {
+    fn write<W: Write>(&self, out: &mut W) -> io::Result<()> {
+        match self {
+            Some(figure) => figure.write(out),
+            None => write!(out, " -"),
+        }
+    }
 }
 
-pub(crate) fn put_f32(x: f32) {
-    if x == x {
-        put(wide(f32::to_bits(x)));
-    } else {
-        put_none();
+impl<A: Figure, B: Figure> Figure for (A, B) {
+    fn write<W: Write>(&self, out: &mut W) -> io::Result<()> {
+        self.0.write(out)?;
+        self.1.write(out)
+    }
+}
+
+impl Figure for f64 {
+    fn write<W: Write>(&self, out: &mut W) -> io::Result<()> {
+        let bits = if self.is_nan() {
+            None
+        } else {
+            Some(self.to_bits())
+        };
+        bits.write(out)
+    }
+}
+
+impl Figure for f32 {
+    fn write<W: Write>(&self, out: &mut W) -> io::Result<()> {
+        let bits = if self.is_nan() {
+            None
+        } else {
+            Some(u64::from(self.to_bits()))
+        };
+        bits.write(out)
+    }
+}
+
+impl Figure for ExtendedRtpTimestamp {
+    fn write<W: Write>(&self, out: &mut W) -> io::Result<()> {
+        self.0.write(out)
+    }
+}
+
+impl Figure for RtxRtt {
+    fn write<W: Write>(&self, out: &mut W) -> io::Result<()> {
+        (self.srtt, self.variation).write(out)
+    }
+}
+
+impl Figure for NackTimings {
+    fn write<W: Write>(&self, out: &mut W) -> io::Result<()> {
+        (self.initial, self.resend).write(out)
+    }
+}
+
+impl Figure for RtpInboundRtxStats {
+    fn write<W: Write>(&self, out: &mut W) -> io::Result<()> {
+        self.packets_received_in_time.write(out)?;
+        self.packets_received_too_late.write(out)?;
+        self.packets_received_redundant.write(out)?;
+        self.bytes_received.write(out)?;
+        self.rtt.write(out)
     }
 }

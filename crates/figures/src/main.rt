@@ -20,43 +20,52 @@
 mod answers;
 mod line;
 
+use line::{Figure, Line};
+use rtx_state::RtxRtt;
+use std::io::{self, BufReader, BufWriter, Read, Write};
+use std::num::f64_from_bits_with_nan;
+
 // What a run reads at most.
 const LINES: u64 = 10000000;
 
-fn answer(text: &[u8; 128]) {
-    let letter = text[0];
-    let a = line::field(text, 0);
-    let b = line::field(text, 1);
-    let c = line::field(text, 2);
-    let d = line::field(text, 3);
-    let e = line::field(text, 4);
-    let f = line::field(text, 5);
-    match letter {
-        b'a' => line::put_f64(durations::as_secs_f64(a)),
-        b's' => answers::signed(a, b),
-        b'f' => answers::nanos(line::f64_of(a)),
-        b'r' => answers::received(a),
-        b'l' => answers::lost(a, b),
-        b'j' => answers::jitter(a, b, c, d, e, f),
-        b'o' => answers::first_sample(a),
-        b'u' => answers::sample(a, b, c),
-        b'd' => answers::resend_delay(a, b),
-        b'n' => answers::timings(a, b, c, d, e),
-        b'x' => answers::stats(a, b, c, d, e, f),
-        b'm' => answers::limit(a, b, c, d, e),
-        b't' => answers::timeout(a, b, c, d, e, f),
-        _ => line::put_none(),
+// Stays: one arm to a letter of the input.
+fn answer<W: Write>(line: &Line, out: &mut W) -> io::Result<()> {
+    let numbers = line::numbers(line);
+    let [a, b, c, ..] = numbers;
+    let rtt = RtxRtt {
+        srtt: a,
+        variation: b,
+    };
+    // Stays: one arm to a letter of the input.
+    match line[0] {
+        b'a' => durations::as_secs_f64(a).write(out)?,
+        b's' => answers::signed(a == 1, b).write(out)?,
+        b'f' => durations::from_secs_f64(f64_from_bits_with_nan(a)).write(out)?,
+        b'r' => answers::packet_loss(a).record_received().get().write(out)?,
+        b'l' => answers::packet_loss(a).record_lost(b).get().write(out)?,
+        b'j' => answers::jitter(numbers).write(out)?,
+        b'o' => RtxRtt::from_first_sample(a).write(out)?,
+        b'u' => rtt.with_sample(c).write(out)?,
+        b'd' => answers::resend_delay(rtt).write(out)?,
+        b'n' => answers::timings(numbers).write(out)?,
+        b'x' => answers::stats(numbers).write(out)?,
+        b'm' => answers::limit(numbers).write(out)?,
+        b't' => answers::timeout(numbers).write(out)?,
+        _ => None::<u64>.write(out)?,
     }
-    line::end();
+    writeln!(out)
 }
 
-fn main() {
-    for i in 0..LINES {
-        let mut text = [0u8; 128];
-        let n = io::read_full(0, &mut text);
-        if n < 128 {
-            return;
+// A line that is cut off ends the input, and so does a read that fails.
+fn main(rt: HostRuntime) -> io::Result<()> {
+    let mut input = BufReader::new(rt.alloc(), rt.stdin())?;
+    let mut out = BufWriter::new(rt.alloc(), rt.stdout())?;
+    for _ in 0..LINES {
+        let mut line = [0; line::LENGTH];
+        if input.read_exact(&mut line).is_err() {
+            break;
         }
-        answer(&text);
+        answer(&line, &mut out)?;
     }
+    out.flush()
 }

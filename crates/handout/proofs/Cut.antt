@@ -1,20 +1,34 @@
 -- A float cut toward zero by its bits. x is lead * 2 ^ (field - 1) of the smallest units, 2 ^ -1074; below 2 ^ 52 in size its field is at most 1074, and
 -- 1074 - (field - 1) digits stand after the point.
-use mathlib.Core.Path.{◌≡◌, refl, sym, ap, ◌∙◌}
+use mathlib.Core.Path.{◌≡◌, refl, sym, ap, ◌∙◌, subst}
 use mathlib.Core.Bool.{Bool, true, false, cond, not}
 use Prim.Native.Nat.{ℕ, ◌+◌, ◌-◌, ◌*◌, ◌/◌, ◌%◌, ◌^◌, ◌≤◌, ◌<◌, min}
-use native.Mathlib.Nat.{le_of_eq, lt_of_lt_of_le, lt_of_le_of_lt, lt_irrefl, mul_comm, mul_right_comm, mul-le-mul, mul-lt-mul_of_pos_right, lt_of_mul-lt-mul_right, mod-lt, div-eq_of_lt, div-lt_iff_lt-mul, mul-div-mul_right}
+use native.Mathlib.Nat.{le_of_eq, lt_of_lt_of_le, lt_of_le_of_lt, lt_irrefl, mul_comm, mul_right_comm, mul-le-mul, mul-lt-mul_of_pos_right, lt_of_mul-lt-mul_right, mod-lt, div-eq_of_lt, div-lt_iff_lt-mul, mul-div-mul_right, one-mul}
 use native.Mathlib.Omega.{arith}
-use borrow.Author.Tests.{ltb-true, ltb-false}
-use lib.Dec.{T, leb, ltb, leb→le, nleb→lt}
+use borrow.Author.Tests.{ltb-true, ltb-false, leb-true, leb-false, eq-eqb, ne_eqb}
+use lib.Dec.{T, leb, ltb, eqb, leb→le, nleb→lt, lit<}
 use lib.IntN.{pos, neg_ℤ}
-use lib.Pow.{pow_pos, pow-add, pow_mono, shl_lt}
-use lib.Ieee.{Float, nan, inf, fin, binary64, to_bits, fits, to_signed, up, down}
+use lib.Pow.{pow_pos, pow-add, pow_mono, shl_lt, shl_exact}
+use lib.Ieee.{Float, nan, inf, fin, binary64, to_bits, fits, is_nan, to_signed, up, down}
+use lib.Ieee.Bits.{to_bits-lt}
 use lib.Ieee.Scale.{finite}
 use lib.Ieee.Positive.{num, den, den_pos}
-use Rattle.float_laws.proofs.Size.{Size}
+use mir.ValLaws.{to_z-of_z}
 use Rattle.float_laws.proofs.Pattern.{lead, expo, frac, sign, lead-lt, lead_ge, lead_is, size_pattern, sign_pattern}
-use Rattle.handout.specs.Bits.{Below52, exponent_of, whole_of, with_sign}
+use Rattle.handout.specs.Bits.{exponent_of, whole_of, with_sign}
+
+pub number : (y : Float) → T (finite y) → T (not (is_nan y))
+unfolding is_nan
+number nan f = absurd f
+number (inf s) f = absurd f
+number (fin s m e) f = tt
+
+top-is : (b : ℕ) → b < 2 ^ 64 → eqb (b / 2 ^ 63) 1 ≡ leb (2 ^ 63) b
+top-is b h = by_test (leb (2 ^ 63) b) refl
+  where
+    by_test : (t : Bool) → leb (2 ^ 63) b ≡ t → eqb (b / 2 ^ 63) 1 ≡ t
+    by_test true e = let l : 2 ^ 63 ≤ b = leb-true (2 ^ 63) b e in eq-eqb (b / 2 ^ 63) 1 (omega arith)
+    by_test false e = let l : b < 2 ^ 63 = leb-false (2 ^ 63) b e in ne_eqb (b / 2 ^ 63) 1 (λ z. omega arith)
 
 -- equal fractions have equal whole parts
 same_whole : (a b c d : ℕ) → 0 < b → 0 < d → a * d ≡ c * b → a / b ≡ c / d
@@ -32,7 +46,8 @@ cast_is (fin false m g) n f e h =
     let k : min (m * up g / down g) (2 ^ 63 - 1) ≡ n = omega arith in
     ap (λ (r : ℕ). pos r) k
 
-module _ (x : Float) (F : T (fits binary64 x)) (small : Below52 x) where
+-- x is a value of the format, below 2 ^ 52 in size
+module _ (x : Float) (F : fits binary64 x ≡ true) (f : T (finite x)) (l : num x < 2 ^ 52 * den x) where
   abbrev b : ℕ
   b = to_bits binary64 x
 
@@ -43,7 +58,7 @@ module _ (x : Float) (F : T (fits binary64 x)) (small : Below52 x) where
   q = lead binary64 e (frac binary64 b)
 
   v : num x * 2 ^ 1074 ≡ q * 2 ^ (e - 1) * den x
-  v = size_pattern binary64 x F small.0
+  v = size_pattern binary64 x (subst T (sym F) tt) f
 
   in_units : num x / den x ≡ q * 2 ^ (e - 1) / 2 ^ 1074
   in_units = same_whole (num x) (den x) (q * 2 ^ (e - 1)) (2 ^ 1074) (den_pos x) (pow_pos 1074) v
@@ -58,7 +73,7 @@ module _ (x : Float) (F : T (fits binary64 x)) (small : Below52 x) where
       under =
           lt_of_mul-lt-mul_right (den x)
           (lt_of_le_of_lt (le_of_eq (sym v))
-          (lt_of_lt_of_le (mul-lt-mul_of_pos_right small.1 (pow_pos 1074)) (le_of_eq (mul_right_comm (2 ^ 52) (den x) (2 ^ 1074)))))
+          (lt_of_lt_of_le (mul-lt-mul_of_pos_right l (pow_pos 1074)) (le_of_eq (mul_right_comm (2 ^ 52) (den x) (2 ^ 1074)))))
 
       clash : 1074 < e → ⊥
       clash h =
@@ -79,7 +94,7 @@ module _ (x : Float) (F : T (fits binary64 x)) (small : Below52 x) where
   some : 1023 ≤ e → num x / den x ≡ (frac binary64 b + 2 ^ 52) / 2 ^ (1075 - e)
   some h =
       let p : 0 < e = omega arith in
-      let shifts : (1075 - e) + (e - 1) ≡ 1074 = let l = field-le in omega arith in
+      let shifts : (1075 - e) + (e - 1) ≡ 1074 = let k = field-le in omega arith in
       let unit : 2 ^ (1075 - e) * 2 ^ (e - 1) ≡ 2 ^ 1074 = sym (pow-add 2 (1075 - e) (e - 1)) ∙ ap (λ (k : ℕ). 2 ^ k) shifts in
       in_units ∙ ap (λ (k : ℕ). q * 2 ^ (e - 1) / k) (sym unit) ∙ mul-div-mul_right q (2 ^ (1075 - e)) (pow_pos (e - 1)) ∙ ap (λ (k : ℕ). k / 2 ^ (1075 - e)) (lead_is binary64 e (frac binary64 b) p)
 
@@ -92,16 +107,26 @@ module _ (x : Float) (F : T (fits binary64 x)) (small : Below52 x) where
       by_test false t = some (ltb-false e 1023 t)
 
   below : num x / den x < 2 ^ 52
-  below = (div-lt_iff_lt-mul (den_pos x)).1 small.1
+  below = (div-lt_iff_lt-mul (den_pos x)).1 l
 
   pub whole-lt : whole_of b < 2 ^ 53
-  whole-lt = let l = below in omega (arith, whole_is)
+  whole-lt = let k = below in omega (arith, whole_is)
 
-  pub cut-is : to_signed 63 x ≡ with_sign (leb (2 ^ 63) b) (whole_of b)
+  -- the sign is the top bit
+  pub cut-is : with_sign (eqb (b / 2 ^ 63) 1) (whole_of b) ≡ to_signed 63 x
   cut-is =
-      cast_is x (whole_of b) small.0 whole_is (let l = below in omega (arith, whole_is))
-      ∙ ap (λ (s : Bool). with_sign s (whole_of b)) (sign_pattern binary64 x F small.0)
+      ap (λ (t : Bool). with_sign t (whole_of b)) (top-is b (to_bits-lt binary64 x (subst T (sym F) tt)))
+      ∙ sym (cast_is x (whole_of b) f whole_is (let k = below in omega (arith, whole_is))
+      ∙ ap (λ (s : Bool). with_sign s (whole_of b)) (sign_pattern binary64 x (subst T (sym F) tt) f))
 
--- the product of `delta_in_rtp_timesteps` is
-pub below_52 : (x : Float) → Size x 18014400000000 1 → Below52 x
-below_52 x h = (h.0, let d = den_pos x in omega (arith, h.1))
+-- what the check of `truncated` needs
+pub ruleset cut = (number, field-le, whole-lt, cut-is, to_z-of_z)
+
+-- ---- the code's unit, `1 << (1075 - e)`
+pub unit_is : (e : ℕ) → 1023 ≤ e → 1 * 2 ^ (1075 - e) % 2 ^ 64 ≡ 2 ^ (1075 - e)
+unit_is e h = shl_exact 1 (1075 - e) 64 (lit< tt) (omega arith) ∙ one-mul (2 ^ (1075 - e))
+
+pub unit_pos : (e : ℕ) → 1023 ≤ e → 0 < 1 * 2 ^ (1075 - e) % 2 ^ 64
+unit_pos e h = subst (λ (k : ℕ). 0 < k) (sym (unit_is e h)) (pow_pos (1075 - e))
+
+pub ruleset unit = (unit_is, unit_pos)

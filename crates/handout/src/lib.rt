@@ -3,17 +3,15 @@
 
 ghost use Rattle.std.specs.Prelude.{◌≡◌, ◌≤◌, ◌<◌, ◌^◌, pos, ◌+ℤ◌};
 ghost use Rattle.std.specs.Int.Signed.{mag};
-ghost use Rattle.std.specs.Float.Ieee.{to_signed};
 ghost use Rattle.rtp.specs.Opt.{timestamp_of};
+ghost use Rattle.std.specs.Float.Ieee.{to_signed};
 ghost use Rattle.durations.specs.Seconds.{largest, from_secs_f64};
 ghost use Rattle.config.specs.Valid.{longest};
 ghost use Rattle.handout.specs.Limit.{delta_in_rtp_timesteps, as_timestamp, map_instant_to_rtp_timestamp, max_timestamp};
 ghost use Rattle.handout.specs.Bits.{Below52, exponent_of, whole_of, with_sign};
 ghost use Rattle.handout.specs.Timeout.{behind, remaining_of, timeout_receive};
 
-use durations::FromSecs;
 use rtp::ExtendedRtpTimestamp;
-use rtp::opt::OptTimestamp;
 
 // Nanoseconds, 2^53: a front packet that was sent longer than this before the last one is due (01, "Hand-out").
 const LONGEST_DELTA: u64 = 9007199254740992;
@@ -24,13 +22,14 @@ const SIGN: u64 = 9223372036854775808;
 const LEADING_DIGIT: u64 = 4503599627370496;
 
 // The limit: packets of at most this timestamp are handed out at `now`; where there is none, nothing is.
+#[tactic(auto, using(crate::proofs::Signed::passed), unfolding(crate::specs::Limit::max_timestamp))]
 pub fn max_timestamp(
     last_instant: u64,
     last_timestamp: ExtendedRtpTimestamp,
     clock_rate: u32,
     delay: u64,
     now: u64,
-) -> OptTimestamp
+) -> Option<ExtendedRtpTimestamp>
     requires { (last_instant ≤ largest) × (last_timestamp.0 ≤ largest) × (clock_rate ≤ 1000000) × (delay ≤ longest) × (now ≤ largest) }
     ensures { timestamp_of result ≡ max_timestamp last_instant last_timestamp.0 clock_rate delay now }
 {
@@ -39,12 +38,13 @@ pub fn max_timestamp(
 }
 
 // The timestamp that stands at `instant`, which may be below 0; none where it would be negative.
+#[tactic(auto, using(crate::proofs::Signed::since), unfolding(crate::specs::Limit::map_instant_to_rtp_timestamp))]
 fn map_instant_to_rtp_timestamp(
     reference_instant: u64,
     reference_timestamp: ExtendedRtpTimestamp,
     clock_rate: u32,
     instant: i64,
-) -> OptTimestamp
+) -> Option<ExtendedRtpTimestamp>
     requires { (reference_instant ≤ largest) × (reference_timestamp.0 ≤ largest) × (clock_rate ≤ 1000000) × (mag instant < 2 ^ 53) }
     ensures { timestamp_of result ≡ map_instant_to_rtp_timestamp reference_instant reference_timestamp.0 clock_rate instant }
 {
@@ -56,6 +56,7 @@ fn map_instant_to_rtp_timestamp(
 }
 
 // A signed number of nanoseconds in the clock's units, cut toward zero.
+#[tactic(auto, using(crate::proofs::Signed::steps), unfolding(crate::specs::Limit::delta_in_rtp_timesteps))]
 fn delta_in_rtp_timesteps(delta: i64, clock_rate: u32) -> i64
     requires { (mag delta < 2 ^ 54) × (clock_rate ≤ 1000000) }
     ensures { (result ≡ delta_in_rtp_timesteps delta clock_rate) × (mag result < 2 ^ 62) }
@@ -64,6 +65,9 @@ fn delta_in_rtp_timesteps(delta: i64, clock_rate: u32) -> i64
 }
 
 // A float below 2^52 in size, cut toward zero: sign and whole part come from its bits.
+// Stays: `saturating_f64_to_i64` of the library is one line and was proved here too, but the law asks for "negative tick counts from the
+// float's bits".
+#[tactic(auto, using(crate::proofs::Cut::cut))]
 fn truncated(x: f64) -> i64
     requires { Below52 x }
     ensures { result ≡ to_signed 63 x }
@@ -73,6 +77,7 @@ fn truncated(x: f64) -> i64
 }
 
 // The whole part of the size: digits / 2^(1075 - exponent). Below an exponent of 1023 the size is below 1.
+#[tactic(auto, using(crate::proofs::Cut::unit), unfolding(crate::specs::Bits::whole_of))]
 fn whole_part(bits: u64) -> u64
     requires { exponent_of bits ≤ 1074 }
     ensures { result ≡ whole_of bits }
@@ -85,6 +90,7 @@ fn whole_part(bits: u64) -> u64
     digits / (1u64 << (1075 - exponent))
 }
 
+#[tactic(auto, using(crate::proofs::Signed::signed), unfolding(crate::specs::Bits::with_sign))]
 fn with_sign(negative: bool, whole: u64) -> i64
     requires { whole < 2 ^ 53 }
     ensures { result ≡ with_sign negative whole }
@@ -93,20 +99,21 @@ fn with_sign(negative: bool, whole: u64) -> i64
     if negative { 0 - size } else { size }
 }
 
-fn add_timesteps(timestamp: ExtendedRtpTimestamp, steps: i64) -> OptTimestamp
+#[tactic(auto, using(crate::proofs::Signed::added), unfolding(rtp::specs::Opt::timestamp_of))]
+fn add_timesteps(timestamp: ExtendedRtpTimestamp, steps: i64) -> Option<ExtendedRtpTimestamp>
     requires { (timestamp.0 ≤ largest) × (mag steps < 2 ^ 62) }
     ensures { timestamp_of result ≡ as_timestamp (pos timestamp.0 +ℤ steps) }
 {
     let sum = (timestamp.0 as i64) + steps;
     if sum < 0 {
-        OptTimestamp::None
-    } else {
-        let limit = sum as u64;
-        OptTimestamp::Some(ExtendedRtpTimestamp(limit))
+        return None;
     }
+    let limit = sum as u64;
+    Some(ExtendedRtpTimestamp(limit))
 }
 
 // Nanoseconds until the front packet, whose timestamp 000 takes for the earliest, is due.
+#[tactic(auto, using(durations::proofs::Bound::nanos_are, durations::proofs::Bound::refused_past, crate::proofs::Behind::behind_nonneg), unfolding(crate::specs::Timeout::timeout_receive, crate::specs::Timeout::remaining_of))]
 pub fn timeout_receive(
     last_instant: u64,
     last_timestamp: ExtendedRtpTimestamp,
@@ -119,26 +126,29 @@ pub fn timeout_receive(
     ensures { result ≡ timeout_receive last_instant last_timestamp.0 earliest_timestamp.0 clock_rate delay now }
 {
     match delta(last_timestamp, earliest_timestamp, clock_rate) {
-        FromSecs::Nanos(ns) => remaining(last_instant, ns, delay, now),
-        FromSecs::Refused => 0,
+        Some(ns) => remaining(last_instant, ns, delay, now),
+        None => 0,
     }
 }
 
 // How long before the last packet the front one was sent.
+#[tactic(auto, using(float_laws::proofs::Upto::counted), unfolding(crate::specs::Timeout::behind))]
 fn delta(
     last_timestamp: ExtendedRtpTimestamp,
     earliest_timestamp: ExtendedRtpTimestamp,
     clock_rate: u32,
-) -> FromSecs
+) -> Option<u64>
     requires { (last_timestamp.0 ≤ largest) × (earliest_timestamp.0 ≤ largest) }
     ensures { result ≡ from_secs_f64 (behind last_timestamp.0 earliest_timestamp.0 clock_rate) }
 {
     let delta = (last_timestamp.0 as f64) - (earliest_timestamp.0 as f64);
+    // Stays: `max` of the library leaves open which of two zeros it answers.
     let max = if delta > 0.0 { delta } else { 0.0 };
     durations::from_secs_f64(max / (clock_rate as f64))
 }
 
 // What is left at `now` until delta before the last instant, plus the delay.
+#[tactic(auto, unfolding(crate::specs::Timeout::remaining_of))]
 fn remaining(last_instant: u64, delta: u64, delay: u64, now: u64) -> u64
     requires { (last_instant ≤ largest) × (delay ≤ longest) × (now ≤ largest) }
     ensures { result ≡ remaining_of last_instant delta delay now }
@@ -148,5 +158,5 @@ fn remaining(last_instant: u64, delta: u64, delay: u64, now: u64) -> u64
     }
     let due = last_instant + delay;
     let passed = delta + now;
-    rtp::saturating_sub(due, passed)
+    due.saturating_sub(passed)
 }

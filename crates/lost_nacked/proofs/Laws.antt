@@ -12,15 +12,14 @@ use Rattle.words.specs.Blocks.{laid}
 use Rattle.words.proofs.Blocked.{word_at}
 use Rattle.words.proofs.Records.{tidied_laid, record_at, holds-cut}
 use Rattle.words.proofs.Forms.{records_of}
-use Rattle.rtp.specs.declared.opt.Opt.TheVariants.{None, Some}
+use Rattle.std.specs.Prelude.{None, Some}
 use Rattle.durations.specs.Seconds.{largest}
 use Rattle.model.specs.Lists.{keep, leading, every?}
-use Rattle.model.specs.Records.{Gap, Remembered}
-use Rattle.model.specs.Rules.{once, instant_of, is_of, forget_first}
+use Rattle.model.specs.Records.{Remembered}
+use Rattle.model.specs.Rules.{instant_of, is_of, forget_first}
 use Rattle.model.specs.Valid.{remembered_sound}
-use Rattle.model.specs.Storage.{gap_words, remembered_words, remembered_words_of, remembered_of_words, remembered_of, gap_of_words, gaps_of}
-use Rattle.model.proofs.Laid.{remembered-held, remembered_coded, length-remembered_of, length-gaps_of}
-use Rattle.packet_gaps.proofs.Laws.{no_gap, read_is}
+use Rattle.model.specs.Storage.{remembered_words, remembered_words_of, remembered_of_words, remembered_of}
+use Rattle.model.proofs.Laid.{remembered-held, remembered_coded, length-remembered_of}
 use Rattle.packet_gaps.proofs.Turns.{drop_next, leading-none, leading_more, leading_end}
 use Rattle.lost_nacked.specs.Remembered.{RememberedIn, another}
 
@@ -142,20 +141,12 @@ pub sound-end : (s : List ℕ) (n i clock : ℕ) → n ≤ i → every? (remembe
 unfolding every?
 sound-end s n i clock h = let e : drop i (remembered_of s n) ≡ [] = drop_of_length-le (remembered_of s n) {i = i} (omega (arith, length-remembered_of s n)) in rw e
 
--- ---- `count_once`
+-- ---- what the functions have to know
 
-module _ (s : List ℕ) (n i : ℕ) (g : Gap) (e : g ≡ gap_of_words (take gap_words (drop (gap_words * i) s))) (h : i < n) where
-  gap_next : drop i (gaps_of s n) ≡ g ∷ drop (i + 1) (gaps_of s n)
-  gap_next = drop_next no_gap (gaps_of s n) i (rw length-gaps_of h) ∙ ap (λ (x : Gap). x ∷ drop (i + 1) (gaps_of s n)) (sym (read_is s n i g e h))
+pub ruleset placed = (remembered-words)
 
-  pub once_more : g.nacks ≡ 1 → length (keep once (drop i (gaps_of s n))) ≡ 1 + length (keep once (drop (i + 1) (gaps_of s n)))
-  unfolding keep
-  once_more o = let z : 1 + length (keep once (drop (i + 1) (gaps_of s n))) ≡ suc (length (keep once (drop (i + 1) (gaps_of s n)))) = omega arith in rw (gap_next, eq-eqb g.nacks 1 o, z)
+pub ruleset searched = (position_found, position_more, position_end)
 
-  pub once_skip : (g.nacks ≡ 1 → ⊥) → length (keep once (drop i (gaps_of s n))) ≡ length (keep once (drop (i + 1) (gaps_of s n)))
-  unfolding keep
-  once_skip o = rw (gap_next, ne_eqb g.nacks 1 o)
+pub ruleset forgetting = (forget_instant, forget-words, forget-none, forget-same)
 
-pub once-end : (s : List ℕ) (n i : ℕ) → n ≤ i → length (keep once (drop i (gaps_of s n))) ≡ 0
-unfolding keep
-once-end s n i h = let e : drop i (gaps_of s n) ≡ [] = drop_of_length-le (gaps_of s n) {i = i} (omega (arith, length-gaps_of s n)) in rw e
+pub ruleset sounding = (sound-number, sound_instant, sound_more, sound-end)

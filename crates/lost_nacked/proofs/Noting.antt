@@ -18,6 +18,7 @@ use Rattle.model.specs.Lists.{keep}
 use Rattle.model.specs.Records.{Gap, Remembered}
 use Rattle.model.specs.Rules.{once, max_lost_nacked, latest, remember, remembered_after}
 use Rattle.model.specs.Storage.{gap_words, remembered_words, remembered_words_of, remembered_of, gap_of_words, gaps_of}
+use Rattle.model.proofs.Lists.{length-keep}
 use Rattle.model.proofs.Laid.{remembered-held, remembered_coded, length-remembered_of, length-gaps_of}
 use Rattle.packet_gaps.proofs.Laws.{no_gap, read_is}
 use Rattle.packet_gaps.proofs.Writing.{keep_next, keep_skip, keep-around}
@@ -40,6 +41,50 @@ module _ (cap n : ℕ) (rs : List Remembered) (s : List ℕ) (e : s ≡ laid rem
 unfoldable pub passed : List ℕ → ℕ → ℕ → List Gap
 passed gaps lost i = keep once (take i (gaps_of gaps lost))
 
+-- g was read at place i of the gaps: what one turn adds to those passed
+module _ (gaps : List ℕ) (lost i : ℕ) (g : Gap) (e : g ≡ gap_of_words (take gap_words (drop (gap_words * i) gaps))) (h : i < lost) where
+  inside : i < length (gaps_of gaps lost)
+  inside = rw length-gaps_of h
+
+  here : get_or (gaps_of gaps lost) i no_gap ≡ g
+  here = sym (read_is gaps lost i g e h)
+
+  not-once : (g.nacks ≡ 1 → ⊥) → passed gaps lost (i + 1) ≡ passed gaps lost i
+  unfolding passed
+  not-once o = keep_skip once no_gap (gaps_of gaps lost) i inside (ap once here ∙ ne_eqb g.nacks 1 o)
+
+  pub count_skip : (g.nacks ≡ 1 → ⊥) → length (passed gaps lost (i + 1)) ≡ length (passed gaps lost i)
+  count_skip o = ap length (not-once o)
+
+  module _ (o : g.nacks ≡ 1) where
+    more : passed gaps lost (i + 1) ≡ passed gaps lost i ++ (g ∷ [])
+    unfolding passed
+    more = keep_next once no_gap (gaps_of gaps lost) i inside (ap once here ∙ eq-eqb g.nacks 1 o) ∙ ap (λ (x : Gap). keep once (take i (gaps_of gaps lost)) ++ (x ∷ [])) here
+
+    pub count_more : length (passed gaps lost (i + 1)) ≡ length (passed gaps lost i) + 1
+    count_more = ap length more ∙ length-append (passed gaps lost i) (g ∷ [])
+
+    -- there are more of them than were passed
+    pub within : length (passed gaps lost i) + 1 ≤ length (keep once (gaps_of gaps lost))
+    unfolding passed
+    within =
+        let a = keep-around once no_gap (gaps_of gaps lost) i inside (ap once here ∙ eq-eqb g.nacks 1 o) in
+        omega (arith, ap length a ∙ length-append (keep once (take i (gaps_of gaps lost))) (get_or (gaps_of gaps lost) i no_gap ∷ keep once (drop (i + 1) (gaps_of gaps lost))))
+
+pub count_none : (gaps : List ℕ) (lost : ℕ) → length (passed gaps lost 0) ≡ 0
+unfolding passed keep
+count_none gaps lost = refl
+
+pub count_all : (gaps : List ℕ) (lost i : ℕ) → lost ≤ i → length (passed gaps lost i) ≡ length (keep once (gaps_of gaps lost))
+unfolding passed
+count_all gaps lost i h = ap (λ (l : List Gap). length (keep once l)) (take_all i (gaps_of gaps lost) (omega (arith, length-gaps_of gaps lost)))
+
+-- no more than fit a word
+pub count_few : (gaps : List ℕ) (lost : ℕ) → length (keep once (gaps_of gaps lost)) ≤ lost
+count_few gaps lost = omega (arith, length-keep once (gaps_of gaps lost), length-gaps_of gaps lost)
+
+pub ruleset counting = (count_none, count_skip, count_more, within, count_all, count_few)
+
 unfoldable pub noted : List ℕ → ℕ → List ℕ → ℕ → ℕ → ℕ → List Remembered
 noted s₀ n gaps lost skip i = remembered_of s₀ n ++ map remember (drop skip (passed gaps lost i))
 
@@ -50,7 +95,6 @@ length-noted s₀ n gaps lost skip i =
     length-append (remembered_of s₀ n) (map remember (drop skip k)) ∙ omega (arith, length-remembered_of s₀ n, length-map (drop skip k) remember, length-drop skip k)
 
 pub record Noting (s₀ s : List ℕ) (n : ℕ) (gaps : List ℕ) (lost skip i left count : ℕ) : Type 0 where
-  pub upto : i ≤ lost
   pub skips : left ≡ skip - length (passed gaps lost i)
   pub counts : count ≡ n + (length (passed gaps lost i) - skip)
   pub room : remembered_words * (n + (length (keep once (gaps_of gaps lost)) - skip)) ≤ length s₀
@@ -62,22 +106,12 @@ pub noting_none : (s₀ : List ℕ) (n : ℕ) (gaps : List ℕ) (lost skip : ℕ
 unfolding noted passed keep
 noting_none s₀ n gaps lost skip k r =
     let e : drop skip (keep once []) ≡ [] = drop-nil skip in
-    record { upto = omega arith; skips = omega arith; counts = omega arith; room = r; same = refl; held = rw (e, append-nil) k.held }
+    record { skips = omega arith; counts = omega arith; room = r; same = refl; held = rw (e, append-nil) k.held }
 
-module _ (s₀ s : List ℕ) (n : ℕ) (gaps : List ℕ) (lost skip i left count : ℕ) (c : Noting s₀ s n gaps lost skip i left count) (h : i < lost) (g : Gap)
+module _ {s₀ s : List ℕ} {n : ℕ} {gaps : List ℕ} {lost skip i left count : ℕ} (c : Noting s₀ s n gaps lost skip i left count) (h : i < lost) (g : Gap)
     (e : g ≡ gap_of_words (take gap_words (drop (gap_words * i) gaps))) where
   k : List Gap
   k = passed gaps lost i
-
-  inside : i < length (gaps_of gaps lost)
-  inside = rw length-gaps_of h
-
-  here : get_or (gaps_of gaps lost) i no_gap ≡ g
-  here = sym (read_is gaps lost i g e h)
-
-  not-once : (g.nacks ≡ 1 → ⊥) → passed gaps lost (i + 1) ≡ passed gaps lost i
-  unfolding passed
-  not-once o = keep_skip once no_gap (gaps_of gaps lost) i inside (ap once here ∙ ne_eqb g.nacks 1 o)
 
   -- where as many are noted of both, the same are
   again : (j : ℕ) → drop skip (passed gaps lost j) ≡ drop skip (passed gaps lost i) → noted s₀ n gaps lost skip i ≡ noted s₀ n gaps lost skip j
@@ -86,35 +120,20 @@ module _ (s₀ s : List ℕ) (n : ℕ) (gaps : List ℕ) (lost skip i left count
 
   pub noting_pass : (g.nacks ≡ 1 → ⊥) → Noting s₀ s n gaps lost skip (i + 1) left count
   noting_pass o =
-      let f : passed gaps lost (i + 1) ≡ passed gaps lost i = not-once o in
+      let f : passed gaps lost (i + 1) ≡ passed gaps lost i = not-once gaps lost i g e h o in
       let v : length (passed gaps lost (i + 1)) ≡ length (passed gaps lost i) = ap length f in
-      record { upto = omega arith; skips = omega (arith, c.skips); counts = omega (arith, c.counts); room = c.room; same = c.same; held = c.held ∙ ap (laid remembered_words_of (length s₀)) (again (i + 1) (ap (drop skip) f)) }
+      record { skips = omega (arith, c.skips); counts = omega (arith, c.counts); room = c.room; same = c.same; held = c.held ∙ ap (laid remembered_words_of (length s₀)) (again (i + 1) (ap (drop skip) f)) }
 
   module _ (o : g.nacks ≡ 1) where
-    more : passed gaps lost (i + 1) ≡ k ++ (g ∷ [])
-    unfolding k passed
-    more = keep_next once no_gap (gaps_of gaps lost) i inside (ap once here ∙ eq-eqb g.nacks 1 o) ∙ ap (λ (x : Gap). keep once (take i (gaps_of gaps lost)) ++ (x ∷ [])) here
-
-    length_more : length (passed gaps lost (i + 1)) ≡ length k + 1
-    length_more = ap length more ∙ length-append k (g ∷ [])
-
-    -- there are more of them than were passed
-    within : length k + 1 ≤ length (keep once (gaps_of gaps lost))
-    unfolding k passed
-    within =
-        let a = keep-around once no_gap (gaps_of gaps lost) i inside (ap once here ∙ eq-eqb g.nacks 1 o) in
-        omega (arith, ap length a ∙ length-append (keep once (take i (gaps_of gaps lost))) (get_or (gaps_of gaps lost) i no_gap ∷ keep once (drop (i + 1) (gaps_of gaps lost))))
-
     pub noting_skip : 0 < left → Noting s₀ s n gaps lost skip (i + 1) (left - 1) count
     unfolding k
     noting_skip z =
         let short : length k < skip = omega (arith, c.skips) in
-        let a : drop skip (passed gaps lost (i + 1)) ≡ [] = drop_of_length-le (passed gaps lost (i + 1)) {i = skip} (omega (arith, length_more)) in
+        let a : drop skip (passed gaps lost (i + 1)) ≡ [] = drop_of_length-le (passed gaps lost (i + 1)) {i = skip} (omega (arith, count_more gaps lost i g e h o)) in
         let b : drop skip k ≡ [] = drop_of_length-le k {i = skip} (omega arith) in
         record {
-          upto = omega arith;
-          skips = omega (arith, c.skips, length_more);
-          counts = omega (arith, c.counts, length_more);
+          skips = omega (arith, c.skips, count_more gaps lost i g e h o);
+          counts = omega (arith, c.counts, count_more gaps lost i g e h o);
           room = c.room;
           same = c.same;
           held = c.held ∙ ap (laid remembered_words_of (length s₀)) (again (i + 1) (a ∙ sym b));
@@ -127,7 +146,7 @@ module _ (s₀ s : List ℕ) (n : ℕ) (gaps : List ℕ) (lost skip i left count
 
       pub noting_room : remembered_words * count + remembered_words ≤ length s
       unfolding k
-      noting_room = omega (arith, c.room, c.same, c.counts, within, enough)
+      noting_room = omega (arith, c.room, c.same, c.counts, within gaps lost i g e h o, enough)
 
       pushed : noted s₀ n gaps lost skip i ++ (remember g ∷ []) ≡ noted s₀ n gaps lost skip (i + 1)
       unfolding noted k
@@ -135,7 +154,7 @@ module _ (s₀ s : List ℕ) (n : ℕ) (gaps : List ℕ) (lost skip i left count
           let m = drop skip k in
           append_assoc (remembered_of s₀ n) (map remember m) (remember g ∷ [])
           ∙ ap (λ (l : List Remembered). remembered_of s₀ n ++ l) (sym (map-append remember m (g ∷ [])))
-          ∙ ap (λ (l : List Gap). remembered_of s₀ n ++ map remember l) (sym (ap (drop skip) more ∙ drop-append-le skip k (g ∷ []) enough))
+          ∙ ap (λ (l : List Gap). remembered_of s₀ n ++ map remember l) (sym (ap (drop skip) (more gaps lost i g e h o) ∙ drop-append-le skip k (g ∷ []) enough))
 
       pub noting_push : (u : List ℕ) → u ≡ written (remembered_words * count) (remembered_words_of (remember g)) s → Noting s₀ u n gaps lost skip (i + 1) left (count + 1)
       unfolding k
@@ -143,25 +162,24 @@ module _ (s₀ s : List ℕ) (n : ℕ) (gaps : List ℕ) (lost skip i left count
           let xs = noted s₀ n gaps lost skip i in
           let ys = noted s₀ n gaps lost skip (i + 1) in
           let lx : length xs ≡ count = length-noted s₀ n gaps lost skip i ∙ sym c.counts in
-          let ly : length ys ≡ count + 1 = length-noted s₀ n gaps lost skip (i + 1) ∙ omega (arith, length_more, c.counts, enough) in
+          let ly : length ys ≡ count + 1 = length-noted s₀ n gaps lost skip (i + 1) ∙ omega (arith, count_more gaps lost i g e h o, c.counts, enough) in
           let fit : remembered_words * count + remembered_words ≤ length s₀ = omega (arith, noting_room, c.same) in
           let held : u ≡ laid remembered_words_of (length s₀) ys =
           w
           ∙ holds_pushed (remembered-held c.held lx (omega arith)) (remember g)
           ∙ ap (laid remembered_words_of (length s₀)) pushed in
           record {
-            upto = omega arith;
-            skips = omega (arith, c.skips, length_more, enough);
-            counts = omega (arith, c.counts, length_more, enough);
+            skips = omega (arith, c.skips, count_more gaps lost i g e h o, enough);
+            counts = omega (arith, c.counts, count_more gaps lost i g e h o, enough);
             room = c.room;
             same = laid-length (length s₀) (count + 1) ys u held ly (omega arith);
             held = held;
           }
 
-pub noting_all : (s₀ s : List ℕ) (n : ℕ) (gaps : List ℕ) (lost skip i left count : ℕ) → Noting s₀ s n gaps lost skip i left count → lost ≤ i
+pub noting_all : {s₀ s : List ℕ} {n : ℕ} {gaps : List ℕ} {lost skip i left count : ℕ} → Noting s₀ s n gaps lost skip i left count → lost ≤ i
     → s ≡ laid remembered_words_of (length s₀) (remembered_of s₀ n ++ map remember (drop skip (keep once (gaps_of gaps lost))))
 unfolding noted passed
-noting_all s₀ s n gaps lost skip i left count c h =
+noting_all {s₀} {n = n} {gaps} {lost} {skip} {i} c h =
     let e : take i (gaps_of gaps lost) ≡ gaps_of gaps lost = take_all i (gaps_of gaps lost) (omega (arith, length-gaps_of gaps lost)) in
     c.held ∙ ap (λ (l : List Gap). laid remembered_words_of (length s₀) (remembered_of s₀ n ++ map remember (drop skip (keep once l)))) e
 
@@ -233,3 +251,7 @@ module _ (s : List ℕ) (n : ℕ) (gaps : List ℕ) (lost more excess out : ℕ)
         e
         ∙ rw (note_length, a, map-drop remember (excess - out) (keep once (gaps_of gaps lost)))
         (ap (laid remembered_words_of (length s)) (drop_both excess out rs ms o ∙ sym noted-is))
+
+pub ruleset noting = (noting_room, noting_all)
+
+pub ruleset noted_lost = (count_few, note_count, note_in, note_length, note_words)

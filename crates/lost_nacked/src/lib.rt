@@ -1,8 +1,9 @@
 // 002's `lost_nacked_packets`: the numbers that were given up after just one NACK, with its instant, oldest first, in counted places of a
 // lent slice. The session keeps their count n. Where a function wants `RememberedIn`, `tidy` made it so.
+// Stays: s and n are two parameters, since the caller lends the slice, and the session, which it lends apart, has the count.
 #![tactic(auto)]
 
-ghost use Rattle.std.specs.Prelude.{◌≡◌, true, ◌++◌, map, ◌+◌, ◌*◌, ◌-◌, ◌≤◌, min, length, take, drop};
+ghost use Rattle.std.specs.Prelude.{◌≡◌, true, ◌++◌, map, ◌+◌, ◌*◌, ◌-◌, ◌≤◌, length, take, drop};
 ghost use Rattle.words.specs.Blocks.{laid};
 ghost use Rattle.words.specs.Words.{written};
 ghost use Rattle.model.specs.Lists.{keep, leading, every?};
@@ -14,7 +15,6 @@ ghost use Rattle.model.specs.Valid.{remembered_sound};
 
 use packet_gaps::Gap;
 use rtp::ExtendedSequenceNumber;
-use rtp::opt::Opt;
 
 // 002's MAX_LOST_NACKED.
 pub const MAX_LOST_NACKED: usize = 1024;
@@ -29,37 +29,37 @@ pub struct Remembered {
 }
 
 // The remembered number at place i.
+#[tactic(auto, using(crate::proofs::Laws::placed))]
 pub fn read(s: &[u64], i: usize) -> Remembered
     requires { remembered_words * i + remembered_words ≤ length s.now }
     ensures { remembered result ≡ remembered_of_words (take remembered_words (drop (remembered_words * i) s.now)) }
 {
     let at = REMEMBERED_WORDS * i;
-    let number = s[at];
-    let nacked_at = s[at + 1];
     Remembered {
-        number: ExtendedSequenceNumber(number),
-        nacked_at,
+        number: ExtendedSequenceNumber(s[at]),
+        nacked_at: s[at + 1],
     }
 }
 
 // The place of the first with the number x, or n.
+// Stays: the definition is how many stand before it, also where none has the number; lent words, which the session counts.
+#[tactic(auto, using(crate::proofs::Laws::searched), unfolding(crate::specs::Remembered::another, model::specs::Rules::is_of))]
 fn position(s: &[u64], n: usize, x: ExtendedSequenceNumber) -> usize
     requires { remembered_words * n ≤ length s.now }
     ensures { result ≡ length (leading (another x.0) (remembered_of s.now n)) }
 {
-    let mut i = 0;
-    while i < n {
-        let r = read(s, i);
-        if r.number.0 == x.0 {
+    for i in 0..n {
+        if read(s, i).number == x {
             return i;
         }
-        i += 1;
     }
-    i
+    n
 }
 
 // Takes the first with the number x out, if there is one; the answer is its instant.
-pub fn forget(s: &mut [u64], n: usize, x: ExtendedSequenceNumber) -> Opt
+// Stays: the caller lends the words (the C interface), and the session has the count.
+#[tactic(auto, using(crate::proofs::Laws::forgetting))]
+pub fn forget(s: &mut [u64], n: usize, x: ExtendedSequenceNumber) -> Option<u64>
     requires { RememberedIn s.old n }
     ensures value { result ≡ lost_nacked_at x.0 (remembered_of s.old n) }
     ensures s_after { s.new ≡ laid remembered_words_of (length s.old) (forget_first x.0 (remembered_of s.old n)) }
@@ -73,20 +73,20 @@ pub fn forget(s: &mut [u64], n: usize, x: ExtendedSequenceNumber) -> Opt
             REMEMBERED_WORDS * k,
             REMEMBERED_WORDS,
         );
-        return Opt::Some(r.nacked_at);
+        return Some(r.nacked_at);
     }
-    Opt::None
+    None
 }
 
 // How many of the first `lost` gaps were NACKed just once.
+// Stays: the caller lends the words (the C interface), and the session has the count.
+#[tactic(auto, using(crate::proofs::Noting::counting))]
 fn count_once(gaps: &[u64], lost: usize) -> usize
     requires { gap_words * lost ≤ length gaps.now }
     ensures { result ≡ length (keep once (gaps_of gaps.now lost)) }
 {
-    let mut i = lost;
     let mut count = 0;
-    while 0 < i {
-        i -= 1;
+    for i in 0..lost {
         if packet_gaps::read(gaps, i).nacks == 1 {
             count += 1;
         }
@@ -94,6 +94,8 @@ fn count_once(gaps: &[u64], lost: usize) -> usize
     count
 }
 
+// Stays: the caller lends the words (the C interface), and the session has the count.
+#[tactic(auto, unfolding(model::specs::Rules::remember, model::specs::Storage::remembered_words_of))]
 fn push_back(s: &mut [u64], n: usize, g: Gap)
     requires { remembered_words * n + remembered_words ≤ length s.old }
     ensures { s.new ≡ written (remembered_words * n) (remembered_words_of (remember (gap g))) s.old }
@@ -103,18 +105,18 @@ fn push_back(s: &mut [u64], n: usize, g: Gap)
 }
 
 // Puts those of the first `lost` gaps that were NACKed just once behind the others, but for the first `skip` of them.
+// Stays: the caller lends the words (the C interface), and the session has the count.
+#[tactic(auto, using(crate::proofs::Noting::noting))]
 fn append(s: &mut [u64], n: usize, gaps: &[u64], lost: usize, skip: usize)
     requires remembered_in { RememberedIn s.old n }
     requires lost_in_bounds { gap_words * lost ≤ length gaps.now }
     requires skip_in_bounds { remembered_words * (n + (length (keep once (gaps_of gaps.now lost)) - skip)) ≤ length s.old }
     ensures { s.new ≡ laid remembered_words_of (length s.old) (remembered_of s.old n ++ map remember (drop skip (keep once (gaps_of gaps.now lost)))) }
 {
-    let mut i = 0;
     let mut left = skip;
     let mut count = n;
-    while i < lost {
+    for i in 0..lost {
         let g = packet_gaps::read(gaps, i);
-        i += 1;
         if g.nacks == 1 {
             if 0 < left {
                 left -= 1;
@@ -126,24 +128,10 @@ fn append(s: &mut [u64], n: usize, gaps: &[u64], lost: usize, skip: usize)
     }
 }
 
-fn beyond(count: usize) -> usize
-    ensures { result ≡ count - max_lost_nacked }
-{
-    if MAX_LOST_NACKED < count {
-        count - MAX_LOST_NACKED
-    } else {
-        0
-    }
-}
-
-fn least(a: usize, b: usize) -> usize
-    ensures { result ≡ min a b }
-{
-    if a <= b { a } else { b }
-}
-
 // Remembers those of the first `lost` gaps that were NACKed just once, with the oldest dropped beyond 1,024; the answer is how many there
 // are then.
+// Stays: the caller lends the words (the C interface), and the session has the count.
+#[tactic(auto, using(crate::proofs::Noting::noted_lost))]
 pub fn note_lost(s: &mut [u64], n: usize, gaps: &[u64], lost: usize) -> usize
     requires remembered_in { RememberedIn s.old n }
     requires n_bound { (n ≤ max_lost_nacked) × (remembered_words * max_lost_nacked ≤ length s.old) }
@@ -152,33 +140,32 @@ pub fn note_lost(s: &mut [u64], n: usize, gaps: &[u64], lost: usize) -> usize
     ensures s_after { s.new ≡ laid remembered_words_of (length s.old) (remembered_after true (gaps_of gaps.now lost) (remembered_of s.old n)) }
 {
     let more = count_once(gaps, lost);
-    let excess = beyond(n + more);
-    let out = least(excess, n);
+    let excess = (n + more).saturating_sub(MAX_LOST_NACKED);
+    let out = excess.min(n);
     words::remove(s, REMEMBERED_WORDS * n, 0, REMEMBERED_WORDS * out);
     append(s, n - out, gaps, lost, excess - out);
     n + more - excess
 }
 
 // 01's check 16: no number past the largest, and no instant after the clock's.
+// Stays: the caller lends the words (the C interface), and the session has the count.
+#[tactic(auto, using(crate::proofs::Laws::sounding))]
 pub fn are_sound(s: &[u64], n: usize, clock: u64) -> bool
     requires { remembered_words * n ≤ length s.now }
     ensures { result ≡ every? (remembered_sound clock) (remembered_of s.now n) }
 {
-    let mut i = 0;
-    while i < n {
+    for i in 0..n {
         let r = read(s, i);
-        if durations::LARGEST < r.number.0 {
+        if durations::LARGEST < r.number.0 || clock < r.nacked_at {
             return false;
         }
-        if clock < r.nacked_at {
-            return false;
-        }
-        i += 1;
     }
     true
 }
 
 // Zeros in all places after the n-th.
+// Stays: unlike `packet_gaps::check::tidy` in stride and layout; lent words, which the session counts.
+#[tactic(auto, using(crate::proofs::Laws::tidied))]
 pub fn tidy(s: &mut [u64], n: usize)
     requires { remembered_words * n ≤ length s.old }
     ensures { s.new ≡ laid remembered_words_of (length s.old) (remembered_of s.old n) }

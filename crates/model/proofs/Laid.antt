@@ -9,7 +9,7 @@ use native.Mathlib.Omega.{arith}
 use lib.Dec.{leb, eqb}
 use lib.ListN.{length, length-replicate}
 use borrow.Author.Tests.{eq-eqb, leb-true}
-use Rattle.words.specs.Words.{padded}
+use Rattle.words.specs.Words.{padded, padded_with}
 use Rattle.words.specs.Blocks.{blocks, flat, laid}
 use Rattle.words.proofs.Over.{over_all}
 use Rattle.words.proofs.Moves.{length-padded}
@@ -19,8 +19,7 @@ use Rattle.words.proofs.Records as Records
 use Rattle.words.proofs.Records.{Holds, holds_wide, Coded, even_wide, length-laid, blocks-laid, records_laid, length_records}
 use Rattle.words.proofs.Ordered.{and_left, and_right}
 use Rattle.words.proofs.Forms.{Even, records_of}
-use Rattle.rtp.specs.declared.opt.Opt.{Opt}
-use Rattle.rtp.specs.declared.opt.Opt.TheVariants.{None, Some}
+use Rattle.std.specs.Prelude.{Option, None, Some}
 use Rattle.model.specs.Records.{Entry, Gap, Remembered, State}
 use Rattle.model.specs.Rules.{max_lost_nacked}
 use Rattle.model.specs.Valid.{counts_fit}
@@ -32,7 +31,7 @@ use Rattle.model.specs.Storage.{Stored, entry_words, payload_bytes, gap_words, r
 unfoldable pub Fits : Entry → Type 0
 Fits e = length e.payload ≤ payload_bytes
 
-arrival-back : (a : Opt) → arrival_of (arrival_word a) ≡ a
+arrival-back : (a : Option ℕ) → arrival_of (arrival_word a) ≡ a
 unfolding arrival_of arrival_word
 arrival-back None = refl
 arrival-back (Some i) = refl
@@ -49,7 +48,7 @@ odd n true = let e : (2 * n + 1) % 2 ≡ 1 = omega arith in rw e
 odd n false = let e : (2 * n + 0) % 2 ≡ 0 = omega arith in rw e
 
 pub padded_self : (p : List ℕ) → padded (length p) p ≡ p
-unfolding padded
+unfolding padded_with
 padded_self p = over_all p _ (sym (length-replicate (length p) 0))
 
 entry-back : (e : Entry) → Fits e → entry_of (entry_words_of e) (payload_bytes_of e) ≡ e

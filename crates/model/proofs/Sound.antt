@@ -6,8 +6,7 @@ use Prim.Native.Nat.{ℕ, ◌*◌, ◌≤◌, ◌<◌}
 use native.Mathlib.Omega.{arith}
 use lib.Dec.{T, leb, leb→le, le→leb, nleb→lt, ltb→lt, lt→ltb, not_T}
 use lib.ListN.{length}
-use Rattle.rtp.specs.declared.opt.Opt.{Opt}
-use Rattle.rtp.specs.declared.opt.Opt.TheVariants.{None, Some}
+use Rattle.std.specs.Prelude.{Option, None, Some}
 use Rattle.durations.specs.Seconds.{largest}
 use Rattle.rtp_packet.specs.Datagram.{largest_payload}
 use Rattle.rtx_state.specs.RoundTrip.{opt_rtt_in_range}
@@ -29,85 +28,85 @@ use Rattle.model.proofs.Lists.{Each, Rising}
 -- ---- numbers and instants
 
 -- not above the highest; there is none before any media packet
-unfoldable pub Reached : Opt → ℕ → Type 0
+unfoldable pub Reached : Option ℕ → ℕ → Type 0
 Reached None n = ⊥
 Reached (Some h) n = n ≤ h
 
-unfoldable pub Under : Opt → ℕ → Type 0
+unfoldable pub Under : Option ℕ → ℕ → Type 0
 Under None n = ⊥
 Under (Some h) n = n < h
 
 -- in sorted mode above the last returned
-unfoldable pub Ahead : RtpInboundQueueMode → Opt → ℕ → Type 0
+unfoldable pub Ahead : RtpInboundQueueMode → Option ℕ → ℕ → Type 0
 Ahead Passthrough returned n = Unit {0}
 Ahead (SortedQueue sorted) None n = Unit {0}
 Ahead (SortedQueue sorted) (Some m) n = m < n
 
-unfoldable pub Returned : Opt → Opt → Type 0
+unfoldable pub Returned : Option ℕ → Option ℕ → Type 0
 unfolding Reached
 Returned highest None = Unit {0}
 Returned highest (Some n) = Reached highest n
 
 -- none, or not after the clock's
-unfoldable pub By : ℕ → Opt → Type 0
+unfoldable pub By : ℕ → Option ℕ → Type 0
 By clock None = Unit {0}
 By clock (Some i) = i ≤ clock
 
-pub reached_of : (h : Opt) (n : ℕ) → T (at_most n h) → Reached h n
+pub reached_of : (h : Option ℕ) (n : ℕ) → T (at_most n h) → Reached h n
 unfolding at_most Reached
 reached_of None n t = t
 reached_of (Some h) n t = leb→le n h t
 
-pub reached_to : (h : Opt) (n : ℕ) → Reached h n → T (at_most n h)
+pub reached_to : (h : Option ℕ) (n : ℕ) → Reached h n → T (at_most n h)
 unfolding at_most Reached
 reached_to None n t = t
 reached_to (Some h) n t = le→leb n h t
 
-pub under_of : (h : Opt) (n : ℕ) → T (under h n) → Under h n
+pub under_of : (h : Option ℕ) (n : ℕ) → T (under h n) → Under h n
 unfolding under Under
 under_of None n t = t
 under_of (Some h) n t = ltb→lt n h t
 
-pub under_to : (h : Opt) (n : ℕ) → Under h n → T (under h n)
+pub under_to : (h : Option ℕ) (n : ℕ) → Under h n → T (under h n)
 unfolding under Under
 under_to None n t = t
 under_to (Some h) n t = lt→ltb n h t
 
-pub ahead_of : (mode : RtpInboundQueueMode) (r : Opt) (n : ℕ) → T (not (passed mode r n)) → Ahead mode r n
+pub ahead_of : (mode : RtpInboundQueueMode) (r : Option ℕ) (n : ℕ) → T (not (passed mode r n)) → Ahead mode r n
 unfolding passed at_most Ahead
 ahead_of Passthrough r n t = tt
 ahead_of (SortedQueue sorted) None n t = tt
 ahead_of (SortedQueue sorted) (Some m) n t = nleb→lt n m t
 
-pub ahead_to : (mode : RtpInboundQueueMode) (r : Opt) (n : ℕ) → Ahead mode r n → T (not (passed mode r n))
+pub ahead_to : (mode : RtpInboundQueueMode) (r : Option ℕ) (n : ℕ) → Ahead mode r n → T (not (passed mode r n))
 unfolding passed at_most Ahead
 ahead_to Passthrough r n t = tt
 ahead_to (SortedQueue sorted) None n t = tt
 ahead_to (SortedQueue sorted) (Some m) n t = not_T (leb n m) (λ u. absurd (omega (arith, leb→le n m u)))
 
-pub returned_of_lem : (h r : Opt) → T (returned_sound h r) → Returned h r
+pub returned_of_lem : (h r : Option ℕ) → T (returned_sound h r) → Returned h r
 unfolding returned_sound Returned
 returned_of_lem h None t = tt
 returned_of_lem h (Some n) t = reached_of h n t
 
-pub returned_to : (h r : Opt) → Returned h r → T (returned_sound h r)
+pub returned_to : (h r : Option ℕ) → Returned h r → T (returned_sound h r)
 unfolding returned_sound Returned
 returned_to h None t = tt
 returned_to h (Some n) t = reached_to h n t
 
-pub by_of : (clock : ℕ) (i : Opt) → T (by_clock clock i) → By clock i
+pub by_of : (clock : ℕ) (i : Option ℕ) → T (by_clock clock i) → By clock i
 unfolding by_clock By
 by_of clock None t = tt
 by_of clock (Some i) t = leb→le i clock t
 
-pub by_to : (clock : ℕ) (i : Opt) → By clock i → T (by_clock clock i)
+pub by_to : (clock : ℕ) (i : Option ℕ) → By clock i → T (by_clock clock i)
 unfolding by_clock By
 by_to clock None t = tt
 by_to clock (Some i) t = le→leb i clock t
 
 -- ---- the records
 
-module _ (clock : ℕ) (highest : Opt) (mode : RtpInboundQueueMode) (returned : Opt) where
+module _ (clock : ℕ) (highest : Option ℕ) (mode : RtpInboundQueueMode) (returned : Option ℕ) where
   pub record GapIn (g : Gap) : Type 0 where
     pub under : Under highest g.number
     pub ahead : Ahead mode returned g.number
@@ -130,7 +129,7 @@ pub record RememberedIn (clock : ℕ) (r : Remembered) : Type 0 where
   pub nacked-by : r.nacked_at ≤ clock
 
 -- what check 16 says of the three lists
-pub record ListsIn (clock : ℕ) (highest : Opt) (mode : RtpInboundQueueMode) (returned : Opt) (gaps : List Gap) (entries : List Entry) (remembered : List Remembered) : Type 0 where
+pub record ListsIn (clock : ℕ) (highest : Option ℕ) (mode : RtpInboundQueueMode) (returned : Option ℕ) (gaps : List Gap) (entries : List Entry) (remembered : List Remembered) : Type 0 where
   pub returned_in : Returned highest returned
   pub gaps_rise : Rising (λ (g : Gap). g.number) gaps
   pub gaps_in : Each (GapIn clock highest mode returned) gaps

@@ -6,8 +6,7 @@ use mathlib.Core.List.{List, ◌∷◌, ◌++◌, map}
 use Prim.Native.Nat.{ℕ, suc, ◌-◌, ◌≤◌, ◌<◌}
 use native.Mathlib.Omega.{arith}
 use lib.Dec.{T, nltb→le}
-use Rattle.rtp.specs.declared.opt.Opt.{Opt}
-use Rattle.rtp.specs.declared.opt.Opt.TheVariants.{None, Some}
+use Rattle.std.specs.Prelude.{Option, None, Some}
 use Rattle.config.specs.declared.RtpInboundQueueMode.{RtpInboundQueueMode}
 use Rattle.config.specs.declared.RtpInboundQueueMode.TheVariants.{Passthrough, SortedQueue}
 use Rattle.model.specs.Lists.{some?}
@@ -19,34 +18,34 @@ use Rattle.model.proofs.Sound.{Reached, Under, Ahead, Returned, By, GapIn, Entry
 
 -- ---- one element
 
-by-later : {clock now : ℕ} (i : Opt) → clock ≤ now → By clock i → By now i
+by-later : {clock now : ℕ} (i : Option ℕ) → clock ≤ now → By clock i → By now i
 unfolding By
 by-later None le b = tt
 by-later (Some i) le b = omega arith
 
 -- what a higher highest number leaves as it is
-reached_raised : (h : Opt) (n k : ℕ) → ((j : ℕ) → Reached h j → j < n) → Reached h k → Reached (Some n) k
+reached_raised : (h : Option ℕ) (n k : ℕ) → ((j : ℕ) → Reached h j → j < n) → Reached h k → Reached (Some n) k
 unfolding Reached
 reached_raised None n k up r = absurd r
 reached_raised (Some h) n k up r = omega (arith, up h (omega arith))
 
-under_raised : (h : Opt) (n k : ℕ) → ((j : ℕ) → Reached h j → j < n) → Under h k → Under (Some n) k
+under_raised : (h : Option ℕ) (n k : ℕ) → ((j : ℕ) → Reached h j → j < n) → Under h k → Under (Some n) k
 unfolding Reached Under
 under_raised None n k up r = absurd r
 under_raised (Some h) n k up r = omega (arith, up h (omega arith))
 
-reached_of_under : (h : Opt) (n : ℕ) → Under h n → Reached h n
+reached_of_under : (h : Option ℕ) (n : ℕ) → Under h n → Reached h n
 unfolding Reached Under
 reached_of_under None n u = u
 reached_of_under (Some h) n u = omega arith
 
-returned_raised : (h r : Opt) (n : ℕ) → ((j : ℕ) → Reached h j → j < n) → Returned h r → Returned (Some n) r
+returned_raised : (h r : Option ℕ) (n : ℕ) → ((j : ℕ) → Reached h j → j < n) → Returned h r → Returned (Some n) r
 unfolding Returned
 returned_raised h None n up t = tt
 returned_raised h (Some k) n up t = reached_raised h n k up t
 
 -- a number above all that was reached is above the last returned
-ahead_new : (mode : RtpInboundQueueMode) (h r : Opt) (n : ℕ) → ((j : ℕ) → Reached h j → j < n) → Returned h r → Ahead mode r n
+ahead_new : (mode : RtpInboundQueueMode) (h r : Option ℕ) (n : ℕ) → ((j : ℕ) → Reached h j → j < n) → Returned h r → Ahead mode r n
 unfolding Ahead Returned
 ahead_new Passthrough h r n up t = tt
 ahead_new (SortedQueue sorted) h None n up t = tt
@@ -60,7 +59,7 @@ ahead_of_front (SortedQueue sorted) k n lt = lt
 
 -- ---- the lists
 
-module _ {clock : ℕ} {highest : Opt} {mode : RtpInboundQueueMode} {returned : Opt} {gaps : List Gap} {entries : List Entry} {remembered : List Remembered} (l : ListsIn clock highest mode returned gaps entries remembered) where
+module _ {clock : ℕ} {highest : Option ℕ} {mode : RtpInboundQueueMode} {returned : Option ℕ} {gaps : List Gap} {entries : List Entry} {remembered : List Remembered} (l : ListsIn clock highest mode returned gaps entries remembered) where
   pub later : {now : ℕ} → clock ≤ now → ListsIn now highest mode returned gaps entries remembered
   later le =
       record {
@@ -136,7 +135,7 @@ module _ {clock : ℕ} {highest : Opt} {mode : RtpInboundQueueMode} {returned : 
 
 -- ---- where a media packet stands
 
-module _ {clock : ℕ} {highest : Opt} {mode : RtpInboundQueueMode} {returned : Opt} {gaps : List Gap} {entries : List Entry} {remembered : List Remembered} (l : ListsIn clock highest mode returned gaps entries remembered) where
+module _ {clock : ℕ} {highest : Option ℕ} {mode : RtpInboundQueueMode} {returned : Option ℕ} {gaps : List Gap} {entries : List Entry} {remembered : List Remembered} (l : ListsIn clock highest mode returned gaps entries remembered) where
   -- a number among the gaps
   pub reached_gap : (n : ℕ) → T (some? (is n) gaps) → Reached highest n
   reached_gap n t = reached_of_under highest n (holds_of_some (Under highest) n gaps t (each_imp (λ g h. h.under) l.gaps_in))
@@ -167,7 +166,7 @@ from-ahead mode n gaps a =
     each_imp (λ g h. ahead_of_front mode n g.number (omega (arith, h.0, nltb→le g.number n h.1)))
     (each_both (each_keep (λ (g : Gap). not (below n g)) a) (each_kept (λ (g : Gap). not (below n g)) gaps))
 
-module _ {now h : ℕ} {mode : RtpInboundQueueMode} {returned : Opt} {gaps : List Gap} {entries : List Entry} {remembered : List Remembered} (l : ListsIn now (Some h) mode returned gaps entries remembered) where
+module _ {now h : ℕ} {mode : RtpInboundQueueMode} {returned : Option ℕ} {gaps : List Gap} {entries : List Entry} {remembered : List Remembered} (l : ListsIn now (Some h) mode returned gaps entries remembered) where
   -- the numbers between the highest and a higher one become gaps
   opened : (n : ℕ) → h < n → ListsIn now (Some n) mode returned (gaps ++ map (fresh now) (between h n)) entries remembered
   unfolding between fresh Reached Under

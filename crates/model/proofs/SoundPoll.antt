@@ -6,8 +6,7 @@ use Prim.Native.Nat.{ℕ, ◌+◌, ◌-◌, ◌≤◌}
 use native.Mathlib.Omega.{arith}
 use lib.Dec.{eqb}
 use lib.ListN.{length, drop, length-append, length-map, length-drop}
-use Rattle.rtp.specs.declared.opt.Opt.{Opt}
-use Rattle.rtp.specs.declared.opt.Opt.TheVariants.{Some}
+use Rattle.std.specs.Prelude.{Option, Some}
 use Rattle.refusals.proofs.Laws.{or_else-none}
 use Rattle.durations.specs.Seconds.{largest}
 use Rattle.config.specs.declared.Settings.{Settings}
@@ -164,7 +163,7 @@ unfolding nacked
 nacked-number true now g = refl
 nacked-number false now g = refl
 
-nacked_in : {now : ℕ} {highest : Opt} {mode : RtpInboundQueueMode} {returned : Opt} (b : Bool) (g : Gap) → GapIn now highest mode returned g → GapIn now highest mode returned (cond b (nacked now g) g)
+nacked_in : {now : ℕ} {highest : Option ℕ} {mode : RtpInboundQueueMode} {returned : Option ℕ} (b : Bool) (g : Gap) → GapIn now highest mode returned g → GapIn now highest mode returned (cond b (nacked now g) g)
 unfolding nacked
 nacked_in true g h = record { under = h.under; ahead = h.ahead; detected-by = h.detected-by; nacked-by = omega arith }
 nacked_in false g h = h

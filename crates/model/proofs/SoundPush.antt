@@ -7,8 +7,8 @@ use native.Mathlib.Omega.{arith}
 use lib.Dec.{T, leb, ltb, ltb→lt, nleb→lt, nltb→le, lit<}
 use lib.ListN.{length, length-append, length-map, length-drop}
 use Rattle.rtp.specs.Opt.{number_of}
-use Rattle.rtp.specs.declared.opt.Opt.{Opt}
-use Rattle.rtp.specs.declared.opt.Opt.TheVariants.{None, Some}
+use Rattle.model.specs.declared.Received.{Received}
+use Rattle.std.specs.Prelude.{Option, None, Some}
 use Rattle.refusals.specs.Refusals.{gaps_full, entries_full}
 use Rattle.refusals.proofs.Laws.{or_else-none}
 use Rattle.durations.specs.Seconds.{largest}
@@ -20,7 +20,6 @@ use Rattle.rtp_packet.proofs.Bounds.{payload-fits}
 use Rattle.packet_loss.proofs.Range.{received_in, lost_in}
 use Rattle.config.specs.declared.Settings.{Settings}
 use Rattle.config.specs.declared.RtpInboundQueueMode.{RtpInboundQueueMode}
-use Rattle.model.specs.declared.LastReceived.{LastReceived}
 use Rattle.model.specs.Lists.{some?}
 use Rattle.model.specs.Records.{Entry, Gap, Remembered, State, highest_of}
 use Rattle.model.specs.Rules.{max_gap_size, max_lost_nacked, is, below, without, gaps_from, Place, first, near, far, fills, other, place_of, waits, between, gaps_after, is_of, forget_first, overfull}
@@ -34,14 +33,14 @@ use Rattle.model.proofs.SoundQueue.{not-refused, clock_of, counts_of, last-after
 
 -- ---- where a media number stands
 
-pub data Stands (highest : Opt) (gaps : List Gap) (n : ℕ) : Place → Type 0 where
+pub data Stands (highest : Option ℕ) (gaps : List Gap) (n : ℕ) : Place → Type 0 where
   is-first : highest ≡ None → Stands highest gaps n first
   is_near : {h : ℕ} → highest ≡ Some h → h < n → Stands highest gaps n (near h)
   is_far : {h : ℕ} → highest ≡ Some h → h < n → Stands highest gaps n (far h)
   is-gap : T (some? (is n) gaps) → Stands highest gaps n fills
   is-other : Stands highest gaps n other
 
-pub stands : (highest : Opt) (gaps : List Gap) (n : ℕ) → Stands highest gaps n (place_of highest gaps n)
+pub stands : (highest : Option ℕ) (gaps : List Gap) (n : ℕ) → Stands highest gaps n (place_of highest gaps n)
 unfolding place_of
 stands None gaps n = is-first refl
 stands (Some h) gaps n =
@@ -57,7 +56,7 @@ waiting-stands s n =
     mode : RtpInboundQueueMode
     mode = s.queue.config.settings.mode
 
-    returned : Opt
+    returned : Option ℕ
     returned = number_of s.queue.returned
 
     P : Place → Type 0
@@ -65,8 +64,8 @@ waiting-stands s n =
 
 -- ---- it comes to wait
 
-module _ {now : ℕ} {mode : RtpInboundQueueMode} {returned : Opt} {gaps : List Gap} {entries : List Entry} {remembered : List Remembered} where
-  lists_queued : (last : LastReceived) (e : Entry) {p : Place} → ListsIn now (highest_of last) mode returned gaps entries remembered → Stands (highest_of last) gaps e.number p → T (waits p) → Ahead mode returned e.number
+module _ {now : ℕ} {mode : RtpInboundQueueMode} {returned : Option ℕ} {gaps : List Gap} {entries : List Entry} {remembered : List Remembered} where
+  lists_queued : (last : Option Received) (e : Entry) {p : Place} → ListsIn now (highest_of last) mode returned gaps entries remembered → Stands (highest_of last) gaps e.number p → T (waits p) → Ahead mode returned e.number
       → By now e.arrival → e.timestamp ≤ largest → length e.payload ≤ largest_payload
       → ListsIn now (highest_of (last_after now e.timestamp e.number p last)) mode returned (gaps_after now e.number p gaps) (insert_sorted e entries) remembered
   unfolding highest_of last_after gaps_after waits Reached
@@ -84,7 +83,7 @@ module _ {now : ℕ} {mode : RtpInboundQueueMode} {returned : Opt} {gaps : List 
       go is-other w = absurd w
 
 -- check 12: the gaps that open find places
-gaps-after-fit : {highest : Opt} {gaps : List Gap} {n : ℕ} {p : Place} (now : ℕ) (set : Settings) → Stands highest gaps n p → length gaps ≤ set.max_gaps → T (not (too_many_gaps set (length gaps) n p)) → length (gaps_after now n p gaps) ≤ set.max_gaps
+gaps-after-fit : {highest : Option ℕ} {gaps : List Gap} {n : ℕ} {p : Place} (now : ℕ) (set : Settings) → Stands highest gaps n p → length gaps ≤ set.max_gaps → T (not (too_many_gaps set (length gaps) n p)) → length (gaps_after now n p gaps) ≤ set.max_gaps
 unfolding gaps_after too_many_gaps without between
 gaps-after-fit now set (is-first at) fit t = fit
 gaps-after-fit {gaps = gaps} {n = n} now set (is_near {h = h} at lt) fit t =
@@ -240,7 +239,7 @@ module _ (now : ℕ) (e : Entry) (s : State) (h : Sound s) (later-now : s.queue.
       mode : RtpInboundQueueMode
       mode = s.queue.config.settings.mode
 
-      returned : Opt
+      returned : Option ℕ
       returned = number_of s.queue.returned
 
       P : Fate → Type 0

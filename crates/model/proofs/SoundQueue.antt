@@ -6,8 +6,9 @@ use Prim.Native.Nat.{ℕ, ◌+◌, ◌-◌, ◌≤◌, ◌<◌}
 use native.Mathlib.Omega.{arith}
 use lib.Dec.{T, leb, ltb, leb→le, le→leb, nltb→le, lit<}
 use lib.Ieee.Fits.{and_l, and_r, and_i}
-use Rattle.rtp.specs.declared.opt.Opt.{Opt}
-use Rattle.rtp.specs.declared.opt.Opt.TheVariants.{None, Some}
+use Rattle.rtx_state.specs.declared.RtxRtt.{RtxRtt}
+use Rattle.model.specs.declared.Received.{Received}
+use Rattle.std.specs.Prelude.{Option, None, Some}
 use Rattle.refusals.specs.Refusals.{CLOCK, COUNT, refuse_if}
 use Rattle.durations.specs.Seconds.{largest}
 use Rattle.jitter.specs.declared.Jitter.{Jitter}
@@ -17,10 +18,8 @@ use Rattle.packet_loss.specs.declared.PacketLoss.{PacketLoss}
 use Rattle.packet_loss.specs.Loss.{loss_in_range}
 use Rattle.packet_loss.proofs.Range.{lost_in}
 use Rattle.rtx_state.specs.declared.RtxState.{RtxState}
-use Rattle.rtx_state.specs.declared.OptRtt.{OptRtt}
 use Rattle.rtx_state.specs.RoundTrip.{opt_rtt_in_range}
 use Rattle.rtx_state.proofs.Range.{sampled_in}
-use Rattle.model.specs.declared.LastReceived.{LastReceived}
 use Rattle.model.specs.declared.Queue.{Queue}
 use Rattle.model.specs.Lists.{some?}
 use Rattle.model.specs.declared.Counters.{Counters}
@@ -52,14 +51,14 @@ counts_of values e = each_imp (λ v h. nltb→le largest v h) (each_not_of_some 
 
 -- ---- the last media packet
 
-pub last-later : {clock now : ℕ} (l : LastReceived) → clock ≤ now → T (last_sound clock l) → T (last_sound now l)
+pub last-later : {clock now : ℕ} (l : Option Received) → clock ≤ now → T (last_sound clock l) → T (last_sound now l)
 unfolding last_sound
-last-later LastReceived.None le t = tt
-last-later {clock} {now} (LastReceived.Some r) le t =
+last-later None le t = tt
+last-later {clock} {now} (Some r) le t =
     let rest = leb r.timestamp.0 largest && leb r.number.0 largest in
     and_i (leb r.instant now) rest (le→leb r.instant now (omega (arith, leb→le r.instant clock (and_l (leb r.instant clock) rest t)))) (and_r (leb r.instant clock) rest t)
 
-pub last-after : (now : ℕ) {ts n : ℕ} (p : Place) (l : LastReceived) → ts ≤ largest → n ≤ largest → T (last_sound now l) → T (last_sound now (last_after now ts n p l))
+pub last-after : (now : ℕ) {ts n : ℕ} (p : Place) (l : Option Received) → ts ≤ largest → n ≤ largest → T (last_sound now l) → T (last_sound now (last_after now ts n p l))
 unfolding last_after last_sound
 last-after now {ts} {n} p l a b t = go p
   where
@@ -74,23 +73,23 @@ last-after now {ts} {n} p l a b t = go p
     go other = t
 
 -- a number below the highest
-pub under-fits : (clock : ℕ) {n : ℕ} (l : LastReceived) → T (last_sound clock l) → Under (highest_of l) n → n ≤ largest
+pub under-fits : (clock : ℕ) {n : ℕ} (l : Option Received) → T (last_sound clock l) → Under (highest_of l) n → n ≤ largest
 unfolding last_sound highest_of Under
-under-fits clock LastReceived.None t u = absurd u
-under-fits clock (LastReceived.Some r) t u =
+under-fits clock None t u = absurd u
+under-fits clock (Some r) t u =
     let last = leb r.number.0 largest in
     omega (arith, leb→le r.number.0 largest (and_r (leb r.timestamp.0 largest) last (and_r (leb r.instant clock) (leb r.timestamp.0 largest && last) t)))
 
 -- ---- jitter and round trip
 
-jitter_after_lem : (clock : ℕ) {now ts rate : ℕ} (l : LastReceived) (j : Jitter) → rate ≤ 1000000 → now ≤ largest → ts ≤ largest → T (last_sound clock l) → T (jitter_in_range rate j) → T (jitter_in_range rate (jitter_after now ts l j))
+jitter_after_lem : (clock : ℕ) {now ts rate : ℕ} (l : Option Received) (j : Jitter) → rate ≤ 1000000 → now ≤ largest → ts ≤ largest → T (last_sound clock l) → T (jitter_in_range rate j) → T (jitter_in_range rate (jitter_after now ts l j))
 unfolding jitter_after last_sound
-jitter_after_lem clock LastReceived.None j small a b t h = h
-jitter_after_lem clock {now} {ts} {rate} (LastReceived.Some r) j small a b t h =
+jitter_after_lem clock None j small a b t h = h
+jitter_after_lem clock {now} {ts} {rate} (Some r) j small a b t h =
     let c = leb→le r.timestamp.0 largest (and_l (leb r.timestamp.0 largest) (leb r.number.0 largest) (and_r (leb r.instant clock) (leb r.timestamp.0 largest && leb r.number.0 largest) t)) in
     updated_in rate (omega arith) j h now ts r.instant r.timestamp.0 (omega arith) (omega arith) (omega arith)
 
-pub sample_in : {now : ℕ} (instant : Opt) (rtt : OptRtt) → now ≤ largest → T (opt_rtt_in_range rtt) → T (opt_rtt_in_range (sampled_at now instant rtt))
+pub sample_in : {now : ℕ} (instant : Option ℕ) (rtt : Option RtxRtt) → now ≤ largest → T (opt_rtt_in_range rtt) → T (opt_rtt_in_range (sampled_at now instant rtt))
 unfolding sampled_at
 sample_in None rtt le t = t
 sample_in {now} (Some i) rtt le t = sampled_in rtt (now - i) t (omega arith)
@@ -101,7 +100,7 @@ module _ {q : Queue} (h : QueueIn q) where
   pub clock-set : {now : ℕ} → q.clock ≤ now → QueueIn (with_clock q now)
   clock-set later = record { config_in = h.config_in; last_in = last-later q.last later h.last_in; counters_in = h.counters_in; rtx_in = h.rtx_in; jitter_in = h.jitter_in; loss_in = h.loss_in }
 
-  pub last_set : {l : LastReceived} → T (last_sound q.clock l) → QueueIn (with_last q l)
+  pub last_set : {l : Option Received} → T (last_sound q.clock l) → QueueIn (with_last q l)
   last_set k = record { config_in = h.config_in; last_in = k; counters_in = h.counters_in; rtx_in = h.rtx_in; jitter_in = h.jitter_in; loss_in = h.loss_in }
 
   pub returned-set : (n : ℕ) → QueueIn (with_returned q n)

@@ -6,7 +6,7 @@ use lib.Dec.{T, leb, leb→le, le→leb}
 use lib.Ieee.Fits.{and_l, and_r, and_i}
 use lib.ListN.{length}
 use Rattle.words.specs.Order.{ascends}
-use Rattle.rtp.specs.declared.opt.Opt.{Opt}
+use Rattle.std.specs.Prelude.{Option, ℕ}
 use Rattle.durations.specs.Seconds.{largest}
 use Rattle.rtp_packet.specs.Datagram.{largest_payload}
 use Rattle.rtx_state.specs.Repair.{rtx_in_range}
@@ -111,13 +111,13 @@ rtx_to r h =
     (h.rtt_in, (le→leb _ _ h.in_time_fits, (le→leb _ _ h.too_late_fits, (le→leb _ _ h.redundant_fits, le→leb _ _ h.bytes_fit))))
 
 module _ (q : Queue) where
-  abbrev highest : Opt
+  abbrev highest : Option ℕ
   highest = highest_of q.last
 
   abbrev mode : RtpInboundQueueMode
   mode = q.config.settings.mode
 
-  abbrev returned : Opt
+  abbrev returned : Option ℕ
   returned = number_of q.returned
 
   abbrev gap_tests : Gap → List Bool

@@ -1,9 +1,8 @@
 -- The eight calls at the head of 01 and those that 02 adds, what each answers and what it leaves. The opening is in Did.
-use Rattle.std.specs.Prelude.{Bool, cond, List, [], ◌∷◌, ℕ, zero, suc, length}
+use Rattle.std.specs.Prelude.{Bool, cond, List, [], ◌∷◌, ℕ, zero, suc, length, Option}
 use Rattle.words.specs.Words.{over}
 use Rattle.rtp.specs.Numbers.{low_bits}
-use Rattle.rtp.specs.declared.opt.Opt.{Opt}
-use Rattle.stats.specs.declared.OptRtxStats.{OptRtxStats}
+use Rattle.stats.specs.declared.RtpInboundRtxStats.{RtpInboundRtxStats}
 use Rattle.model.specs.declared.Queue.{Queue}
 use Rattle.model.specs.Records.{Entry, State, highest_of}
 use Rattle.model.specs.Rules.{Place, waits}
@@ -26,7 +25,7 @@ pub record Packet : Type 0 where
   pub timestamp : ℕ
   pub ssrc : ℕ
   pub marker : Bool
-  pub arrival : Opt
+  pub arrival : Option ℕ
   pub delay : ℕ
   -- how many bytes of the output are its payload
   pub size : ℕ
@@ -44,9 +43,9 @@ pub data Answer : Type 0 where
   nack : ℕ → Answer
   -- how many bytes do, 0 where nothing is due (02, point 1: "the answer to a call that writes counts the bytes .. written")
   wire : ℕ → Answer
-  timeout : Opt → Answer
-  stats : OptRtxStats → Answer
-  highest : Opt → Answer
+  timeout : Option ℕ → Answer
+  stats : Option RtpInboundRtxStats → Answer
+  highest : Option ℕ → Answer
 
 -- ---- what an accepted call leaves
 

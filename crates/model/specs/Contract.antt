@@ -1,10 +1,13 @@
 -- The equations that are the contracts of the opening and of the calls; `Made` (crate `book`) takes the same ones.
-use Rattle.std.specs.Prelude.{◌≡◌, List, ℕ}
+use Rattle.std.specs.Prelude.{◌≡◌, List, ℕ, Result, Ok, Err}
 use Rattle.std.specs.Borrow.{MutBor}
 use denote.Triple.Both.{Both}
 use Rattle.model.specs.declared.Config.{Config}
 use Rattle.model.specs.declared.Session.{Session}
 use Rattle.model.specs.Storage.{Storage, Stored}
+use Rattle.refusals.specs.declared.Refusal.{Refusal}
+use Rattle.refusals.specs.Refusals.{number}
+use Rattle.model.specs.Calls as Calls
 use Rattle.model.specs.Calls.{Answer, Call}
 use Rattle.model.specs.Did.{did, opened, Opening}
 
@@ -33,6 +36,11 @@ module _ (entries payloads gaps remembered : Lent) where
 
   abbrev pub after : Session → Stored
   after s = record { session = s; storage = left }
+
+-- What a call of the code came to, in the definitions' terms: its value as an answer, or the number under which it was refused.
+abbrev pub said : {A : Type 0} → (A → Answer) → Result A Refusal → Answer
+said f (Ok x) = f x
+said f (Err e) = Calls.refused (number e)
 
 -- The opening on `before` gave this answer and left `after`.
 abbrev pub Opens : Config → Storage → Opening → Storage → Type 0

@@ -1,7 +1,6 @@
 -- The delay of a session without RTX, or without an estimate, rests on its settings and its jitter alone (02, point 7).
-use Rattle.std.specs.Prelude.{◌≡◌, false}
+use Rattle.std.specs.Prelude.{◌≡◌, false, None}
 use Rattle.packet_loss.specs.declared.PacketLoss.{PacketLoss}
-use Rattle.rtx_state.specs.declared.OptRtt.TheVariants.{None}
 use Rattle.config.specs.Delay.{target_delay}
 use Rattle.model.specs.declared.Queue.{Queue}
 use Rattle.model.specs.Poll.{estimate_of, delay_of}

@@ -1,9 +1,8 @@
 -- 02, point 1: the call on the wire, beside the `poll_nack` that might have been made in its place on the same stored session.
-use Rattle.std.specs.Prelude.{◌≡◌, List, ℕ, ◌*◌, ◌/◌, ◌≤◌, length, take}
+use Rattle.std.specs.Prelude.{◌≡◌, List, ℕ, ◌*◌, ◌/◌, ◌≤◌, length, take, Ok}
 use Rattle.words.specs.Words.{over}
 use Rattle.nack_pairs.specs.Wire.{entry_bytes, NUMBERS}
 use Rattle.nack_pairs.specs.Reader.{read_answer, list_after}
-use Rattle.nack_pairs.specs.declared.read.ReadAnswer.TheVariants.{Numbers}
 use Rattle.model.specs.Storage.{Stored}
 use Rattle.model.specs.Calls.{poll_nack, nack_wire, wire, nack_answer}
 use Rattle.model.specs.Table.{refusal}
@@ -27,7 +26,7 @@ module _ (now : ℕ) (bytes list : List ℕ) (m : Stored) where
       → let w = did (nack_wire now bytes) m in
       let l = did (poll_nack now list) m in
       w.answer ≡ wire n → l.answer ≡ nack_answer k → NUMBERS * (n / entry_bytes) ≤ length back
-      → (read_answer (take n w.output) (length back) ≡ Numbers k) × (list_after (take n w.output) back ≡ over (take k l.output) back)
+      → (read_answer (take n w.output) (length back) ≡ Ok k) × (list_after (take n w.output) back ≡ over (take k l.output) back)
 
 pub record OnTheWire : Type 0 where
   pub same_refusal : (now : ℕ) (bytes list : List ℕ) (m : Stored) → SameRefusal now bytes list m

@@ -1,12 +1,11 @@
 -- 000's `poll`, `poll_nack`, the two timeouts and the figures; 01, "Hand-out" and "Gap".
-use Rattle.std.specs.Prelude.{Bool, true, false, cond, List, [], ◌∷◌, map, ℕ, ◌+◌, ◌-◌, length, take, drop}
+use Rattle.std.specs.Prelude.{Bool, true, false, cond, List, [], ◌∷◌, map, ℕ, ◌+◌, ◌-◌, length, take, drop, Option, None, Some}
 use Rattle.rtp.specs.Opt.{at_most, opt_min}
-use Rattle.rtp.specs.declared.opt.Opt.{Opt}
-use Rattle.rtp.specs.declared.opt.Opt.TheVariants.{None, Some}
+use Rattle.rtx_state.specs.declared.RtxRtt.{RtxRtt}
+use Rattle.stats.specs.declared.RtpInboundRtxStats.{RtpInboundRtxStats}
+use Rattle.model.specs.declared.Received.{Received}
 use Rattle.nack_pairs.specs.Wire as Wire
 use Rattle.rtx_state.specs.Repair.{rtx_stats}
-use Rattle.rtx_state.specs.declared.OptRtt.{OptRtt}
-use Rattle.stats.specs.declared.OptRtxStats.{OptRtxStats}
 use Rattle.packet_loss.specs.Loss.{record_lost}
 use Rattle.config.specs.declared.RtpInboundQueueMode.{RtpInboundQueueMode}
 use Rattle.config.specs.declared.RtpInboundQueueMode.TheVariants.{Passthrough, SortedQueue}
@@ -14,7 +13,6 @@ use Rattle.config.specs.declared.NackTimings.{NackTimings}
 use Rattle.config.specs.Delay.{target_delay}
 use Rattle.handout.specs.Limit.{max_timestamp}
 use Rattle.handout.specs.Timeout.{timeout_receive}
-use Rattle.model.specs.declared.LastReceived.{LastReceived}
 use Rattle.model.specs.declared.Counters.{Counters}
 use Rattle.model.specs.declared.Queue.{Queue}
 use Rattle.model.specs.Lists.{keep}
@@ -45,7 +43,7 @@ drained now s =
 -- ---- `poll`
 
 -- the round trip estimate, which a session without RTX has not
-abbrev pub estimate_of : Queue → OptRtt
+abbrev pub estimate_of : Queue → Option RtxRtt
 estimate_of q = estimate_in q.config.senders.has_rtx q.rtx.rtt
 
 -- how long a packet is kept: what the limit, the timeout and the answer have
@@ -53,10 +51,10 @@ unfoldable pub delay_of : Queue → ℕ
 delay_of q = target_delay q.config.settings q.jitter q.loss (estimate_of q)
 
 -- whether the limit has reached the timestamp; there is none where it is negative: "a negative limit hands out nothing"
-unfoldable pub ready_in : RtpInboundQueueMode → (rate delay : ℕ) → LastReceived → (now timestamp : ℕ) → Bool
+unfoldable pub ready_in : RtpInboundQueueMode → (rate delay : ℕ) → Option Received → (now timestamp : ℕ) → Bool
 ready_in Passthrough rate delay last now timestamp = true
-ready_in (SortedQueue sorted) rate delay LastReceived.None now timestamp = false
-ready_in (SortedQueue sorted) rate delay (LastReceived.Some r) now timestamp = at_most timestamp (max_timestamp r.instant r.timestamp.0 rate delay now)
+ready_in (SortedQueue sorted) rate delay None now timestamp = false
+ready_in (SortedQueue sorted) rate delay (Some r) now timestamp = at_most timestamp (max_timestamp r.instant r.timestamp.0 rate delay now)
 
 -- whether an entry of the timestamp goes out where it is the front one
 abbrev pub ready : Queue → (now timestamp : ℕ) → Bool
@@ -122,20 +120,20 @@ after_poll_nack now s = nack_all now (drained now s)
 
 -- ---- calls that leave the session as it is
 
-unfoldable pub timeout_in : RtpInboundQueueMode → (rate delay : ℕ) → LastReceived → List Entry → ℕ → Opt
+unfoldable pub timeout_in : RtpInboundQueueMode → (rate delay : ℕ) → Option Received → List Entry → ℕ → Option ℕ
 timeout_in Passthrough rate delay last [] now = None
 timeout_in Passthrough rate delay last (e ∷ es) now = Some 0
-timeout_in (SortedQueue sorted) rate delay LastReceived.None l now = None
-timeout_in (SortedQueue sorted) rate delay (LastReceived.Some r) [] now = None
-timeout_in (SortedQueue sorted) rate delay (LastReceived.Some r) (e ∷ es) now = Some (timeout_receive r.instant r.timestamp.0 e.timestamp rate delay now)
+timeout_in (SortedQueue sorted) rate delay None l now = None
+timeout_in (SortedQueue sorted) rate delay (Some r) [] now = None
+timeout_in (SortedQueue sorted) rate delay (Some r) (e ∷ es) now = Some (timeout_receive r.instant r.timestamp.0 e.timestamp rate delay now)
 
-abbrev pub receive_timeout_of : Queue → List Entry → ℕ → Opt
+abbrev pub receive_timeout_of : Queue → List Entry → ℕ → Option ℕ
 receive_timeout_of q l now = timeout_in q.config.settings.mode q.config.settings.clock_rate (delay_of q) q.last l now
 
 -- 001, "the next time": the least that is left until a gap is due
-unfoldable pub nack_timeout_of : NackTimings → ℕ → List Gap → Opt
+unfoldable pub nack_timeout_of : NackTimings → ℕ → List Gap → Option ℕ
 nack_timeout_of t now [] = None
 nack_timeout_of t now (g ∷ gs) = opt_min (Some (due_at t g - now)) (nack_timeout_of t now gs)
 
-unfoldable pub repair_figures_of : Queue → OptRtxStats
-repair_figures_of q = cond q.config.senders.has_rtx (OptRtxStats.Some (rtx_stats q.rtx)) OptRtxStats.None
+unfoldable pub repair_figures_of : Queue → Option RtpInboundRtxStats
+repair_figures_of q = cond q.config.senders.has_rtx (Some (rtx_stats q.rtx)) None

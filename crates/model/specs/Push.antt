@@ -1,9 +1,8 @@
 -- 000's `push` and `push_rtx`; 01, "Entry", "Gap", "Repair state", "Jitter" and "Loss": what a media packet and a repair make of a session.
 -- The bytes are a datagram that was not refused.
-use Rattle.std.specs.Prelude.{Bool, cond, List, [], ◌∷◌, ℕ, ◌+◌, leb, length}
+use Rattle.std.specs.Prelude.{Bool, cond, List, [], ◌∷◌, ℕ, ◌+◌, leb, length, Option, None, Some}
 use Rattle.rtp.specs.Opt.{number_of, at_most}
-use Rattle.rtp.specs.declared.opt.Opt.{Opt}
-use Rattle.rtp.specs.declared.opt.Opt.TheVariants.{None, Some}
+use Rattle.model.specs.declared.Received.{Received}
 use Rattle.rtp_packet.specs.Header.{sequence_number, timestamp, marker, payload_of}
 use Rattle.rtp_packet.specs.Original.{original_number, original_payload}
 use Rattle.rtx_state.specs.declared.RtxState.{RtxState}
@@ -13,7 +12,6 @@ use Rattle.jitter.specs.Interarrival.{jitter_updated}
 use Rattle.packet_loss.specs.Loss.{record_received, record_lost}
 use Rattle.config.specs.declared.RtpInboundQueueMode.{RtpInboundQueueMode}
 use Rattle.config.specs.declared.RtpInboundQueueMode.TheVariants.{Passthrough, SortedQueue}
-use Rattle.model.specs.declared.LastReceived.{LastReceived}
 use Rattle.model.specs.declared.Counters.{Counters}
 use Rattle.model.specs.declared.Queue.{Queue}
 use Rattle.model.specs.Lists.{some?}
@@ -23,12 +21,12 @@ use Rattle.model.specs.Rules.{extended, is, without, gaps_from, Place, first, ne
 -- ---- what both share
 
 -- in sorted mode the last returned
-unfoldable pub passed_of : RtpInboundQueueMode → Opt → Opt
+unfoldable pub passed_of : RtpInboundQueueMode → Option ℕ → Option ℕ
 passed_of Passthrough returned = None
 passed_of (SortedQueue sorted) returned = returned
 
 -- "in sorted mode nothing at or below the last returned number is" queued
-unfoldable pub passed : RtpInboundQueueMode → Opt → ℕ → Bool
+unfoldable pub passed : RtpInboundQueueMode → Option ℕ → ℕ → Bool
 unfolding passed_of
 passed mode returned n = at_most n (passed_of mode returned)
 
@@ -40,7 +38,7 @@ unfoldable pub extended_timestamp : Queue → ℕ → ℕ
 extended_timestamp q got = extended 32 (last_timestamp_of q.last) got
 
 -- the entry that a packet becomes, by its own timestamp and number
-unfoldable pub extended_entry : Queue → Opt → (timestamp number : ℕ) → Bool → List ℕ → Entry
+unfoldable pub extended_entry : Queue → Option ℕ → (timestamp number : ℕ) → Bool → List ℕ → Entry
 extended_entry q arrival ts n marker payload =
     record { arrival = arrival; timestamp = extended_timestamp q ts; number = extended_number q n; marker = marker; payload = payload }
 
@@ -60,19 +58,19 @@ unfolding place_in
 media_place s n = place_in s.queue s.gaps n
 
 -- "made in `push` even for a packet then dropped"
-unfoldable pub jitter_after : ℕ → ℕ → LastReceived → Jitter → Jitter
-jitter_after now ts LastReceived.None j = j
-jitter_after now ts (LastReceived.Some r) j = jitter_updated j now ts r.instant r.timestamp.0
+unfoldable pub jitter_after : ℕ → ℕ → Option Received → Jitter → Jitter
+jitter_after now ts None j = j
+jitter_after now ts (Some r) j = jitter_updated j now ts r.instant r.timestamp.0
 
 -- the clock and the jitter follow every packet
 unfoldable pub heard : ℕ → ℕ → Queue → Queue
 heard now ts q = with_clock (with_jitter q (jitter_after now ts q.last q.jitter)) now
 
 -- 000, "forward progress only"
-unfoldable pub last_after : (now timestamp number : ℕ) → Place → LastReceived → LastReceived
-last_after now ts n first l = LastReceived.Some (record { instant = now; timestamp = record { 0 = ts }; number = record { 0 = n } })
-last_after now ts n (near h) l = LastReceived.Some (record { instant = now; timestamp = record { 0 = ts }; number = record { 0 = n } })
-last_after now ts n (far h) l = LastReceived.Some (record { instant = now; timestamp = record { 0 = ts }; number = record { 0 = n } })
+unfoldable pub last_after : (now timestamp number : ℕ) → Place → Option Received → Option Received
+last_after now ts n first l = Some (record { instant = now; timestamp = record { 0 = ts }; number = record { 0 = n } })
+last_after now ts n (near h) l = Some (record { instant = now; timestamp = record { 0 = ts }; number = record { 0 = n } })
+last_after now ts n (far h) l = Some (record { instant = now; timestamp = record { 0 = ts }; number = record { 0 = n } })
 last_after now ts n fills l = l
 last_after now ts n other l = l
 
@@ -146,17 +144,17 @@ unfolding extended_entry
 repair_entry d q = extended_entry q None (timestamp d) (original_number (payload_of d)) (marker d) (original_payload (payload_of d))
 
 -- the repair state with the sample that the repair of a number yields
-abbrev pub sampled : ℕ → Opt → RtxState → RtxState
+abbrev pub sampled : ℕ → Option ℕ → RtxState → RtxState
 sampled now instant r = with_rtt r (sampled_at now instant r.rtt)
 
 -- what a repair makes of the queue's own record; `nacked` is the instant of the number's NACK, if there was just one
-abbrev pub queue_too_late : ℕ → Opt → Queue → Queue
+abbrev pub queue_too_late : ℕ → Option ℕ → Queue → Queue
 queue_too_late now nacked q = with_rtx (with_clock q now) (sampled now nacked (record_too_late q.rtx))
 
 abbrev pub queue_redundant : ℕ → Queue → Queue
 queue_redundant now q = with_rtx (with_clock q now) (record_redundant q.rtx)
 
-abbrev pub queue_recovered : (now : ℕ) → Opt → (size : ℕ) → Queue → Queue
+abbrev pub queue_recovered : (now : ℕ) → Option ℕ → (size : ℕ) → Queue → Queue
 queue_recovered now nacked size q = with_loss (with_rtx (with_clock q now) (sampled now nacked (record_in_time q.rtx size))) (record_lost q.loss 1)
 
 unfoldable pub after_fate : ℕ → Entry → Fate → State → State

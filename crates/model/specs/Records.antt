@@ -1,7 +1,6 @@
 -- 01, "The records": entries, gaps and remembered numbers as plain lists beside the queue's own numbers.
-use Rattle.std.specs.Prelude.{Bool, List, [], map, ℕ}
-use Rattle.rtp.specs.declared.opt.Opt.{Opt}
-use Rattle.rtp.specs.declared.opt.OptNumber.TheVariants as OptNumber
+use Rattle.std.specs.Prelude.{Bool, List, [], map, ℕ, Option, None, Some}
+use Rattle.model.specs.declared.Received.{Received}
 use Rattle.rtx_state.specs.declared.RtxState.{RtxState}
 use Rattle.rtx_state.specs.Repair.{new_rtx_state}
 use Rattle.jitter.specs.declared.Jitter.{Jitter}
@@ -9,14 +8,13 @@ use Rattle.jitter.specs.Interarrival.{new_jitter}
 use Rattle.packet_loss.specs.declared.PacketLoss.{PacketLoss}
 use Rattle.packet_loss.specs.Loss.{new_loss}
 use Rattle.model.specs.declared.Config.{Config}
-use Rattle.model.specs.declared.LastReceived.{LastReceived}
 use Rattle.model.specs.declared.Counters.{Counters}
 use Rattle.model.specs.declared.Queue.{Queue}
 
 -- "arrival instant or none for a repair, extended timestamp and number, packet". Of the packet marker and payload are kept: payload type and
 -- SSRC are the session's, by checks 6 and 7, and its own number and timestamp are the low bits of the extended ones.
 pub record Entry : Type 0 where
-  pub arrival : Opt
+  pub arrival : Option ℕ
   pub timestamp : ℕ
   pub number : ℕ
   pub marker : Bool
@@ -51,19 +49,19 @@ gap_numbers l = map (λ (g : Gap). g.number) l
 -- ---- what the queue tells
 
 -- the highest number, its timestamp: the references by which numbers are extended
-unfoldable pub highest_of : LastReceived → Opt
-highest_of LastReceived.None = Opt.None
-highest_of (LastReceived.Some r) = Opt.Some r.number.0
+unfoldable pub highest_of : Option Received → Option ℕ
+highest_of None = None
+highest_of (Some r) = Some r.number.0
 
-unfoldable pub last_timestamp_of : LastReceived → Opt
-last_timestamp_of LastReceived.None = Opt.None
-last_timestamp_of (LastReceived.Some r) = Opt.Some r.timestamp.0
+unfoldable pub last_timestamp_of : Option Received → Option ℕ
+last_timestamp_of None = None
+last_timestamp_of (Some r) = Some r.timestamp.0
 
 -- ---- a newly opened session
 
 unfoldable pub new_queue : Config → Queue
 new_queue c =
-    record { config = c; clock = 0; last = LastReceived.None; returned = OptNumber.None; rtx = new_rtx_state; counters = record { dropped = 0; received = 0; bytes = 0; lost = 0 }; jitter = new_jitter c.settings.clock_rate; loss = new_loss }
+    record { config = c; clock = 0; last = None; returned = None; rtx = new_rtx_state; counters = record { dropped = 0; received = 0; bytes = 0; lost = 0 }; jitter = new_jitter c.settings.clock_rate; loss = new_loss }
 
 unfoldable pub new_state : Config → State
 unfolding new_queue
@@ -75,12 +73,12 @@ module _ (q : Queue) where
   abbrev pub with_clock : ℕ → Queue
   with_clock now = record { config = q.config; clock = now; last = q.last; returned = q.returned; rtx = q.rtx; counters = q.counters; jitter = q.jitter; loss = q.loss }
 
-  abbrev pub with_last : LastReceived → Queue
+  abbrev pub with_last : Option Received → Queue
   with_last l = record { config = q.config; clock = q.clock; last = l; returned = q.returned; rtx = q.rtx; counters = q.counters; jitter = q.jitter; loss = q.loss }
 
   abbrev pub with_returned : ℕ → Queue
   with_returned n =
-      record { config = q.config; clock = q.clock; last = q.last; returned = OptNumber.Some (record { 0 = n }); rtx = q.rtx; counters = q.counters; jitter = q.jitter; loss = q.loss }
+      record { config = q.config; clock = q.clock; last = q.last; returned = Some (record { 0 = n }); rtx = q.rtx; counters = q.counters; jitter = q.jitter; loss = q.loss }
 
   abbrev pub with_rtx : RtxState → Queue
   with_rtx r = record { config = q.config; clock = q.clock; last = q.last; returned = q.returned; rtx = r; counters = q.counters; jitter = q.jitter; loss = q.loss }

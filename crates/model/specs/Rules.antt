@@ -1,9 +1,7 @@
 -- 01, "Numbers", "Gap", "Repair state" and "Hand-out": the rules that the queue and the book share. None of them looks at a session.
-use Rattle.std.specs.Prelude.{Bool, true, false, cond, not, List, [], ◌∷◌, ◌++◌, map, ℕ, suc, ◌+◌, ◌-◌, ◌*◌, ◌^◌, leb, ltb, eqb, length, drop}
+use Rattle.std.specs.Prelude.{Bool, true, false, cond, not, List, [], ◌∷◌, ◌++◌, map, ℕ, suc, ◌+◌, ◌-◌, ◌*◌, ◌^◌, leb, ltb, eqb, length, drop, Option, None, Some}
 use Rattle.rtp.specs.Numbers.{low_bits, guessed}
-use Rattle.rtp.specs.declared.opt.Opt.{Opt}
-use Rattle.rtp.specs.declared.opt.Opt.TheVariants.{None, Some}
-use Rattle.rtx_state.specs.declared.OptRtt.{OptRtt}
+use Rattle.rtx_state.specs.declared.RtxRtt.{RtxRtt}
 use Rattle.rtx_state.specs.RoundTrip.{sampled_rtt}
 use Rattle.config.specs.declared.RtpInboundQueueMode.{RtpInboundQueueMode}
 use Rattle.config.specs.declared.RtpInboundQueueMode.TheVariants.{Passthrough, SortedQueue}
@@ -21,7 +19,7 @@ abbrev pub first_cycle : ℕ
 first_cycle = 1
 
 -- a number of w bits, extended by the reference, if there is one
-unfoldable pub extended : ℕ → Opt → ℕ → ℕ
+unfoldable pub extended : ℕ → Option ℕ → ℕ → ℕ
 extended w None got = first_cycle * 2 ^ w + got
 extended w (Some reference) got = guessed w reference got
 
@@ -62,7 +60,7 @@ pub data Place : Type 0 where
   -- any other
   other : Place
 
-unfoldable pub place_of : Opt → List Gap → ℕ → Place
+unfoldable pub place_of : Option ℕ → List Gap → ℕ → Place
 place_of None gaps n = first
 place_of (Some h) gaps n = cond (ltb h n) (cond (leb (n - h) max_gap_size) (near h) (far h)) (cond (some? (is n) gaps) fills other)
 
@@ -92,12 +90,12 @@ gaps_after now n other l = l
 -- ---- NACKs
 
 -- a session without RTX measures no round trip
-unfoldable pub estimate_in : Bool → OptRtt → OptRtt
-estimate_in false rtt = OptRtt.None
+unfoldable pub estimate_in : Bool → Option RtxRtt → Option RtxRtt
+estimate_in false rtt = None
 estimate_in true rtt = rtt
 
 -- after how long a gap is NACKed, first and again
-unfoldable pub timings_in : Config → OptRtt → NackTimings
+unfoldable pub timings_in : Config → Option RtxRtt → NackTimings
 timings_in c rtt = nack_timings c.settings (estimate_in c.senders.has_rtx rtt)
 
 -- "detected + initial delay, or last NACK + resend delay"
@@ -136,31 +134,31 @@ abbrev pub once : Gap → Bool
 once g = eqb g.nacks 1
 
 -- the instant of a gap's NACK, if there was just one
-unfoldable pub nacked_once : Gap → Opt
+unfoldable pub nacked_once : Gap → Option ℕ
 nacked_once g = cond (once g) (Some g.nacked_at) None
 
-unfoldable pub once_of : List Gap → Opt
+unfoldable pub once_of : List Gap → Option ℕ
 once_of [] = None
 once_of (g ∷ gs) = nacked_once g
 
 -- the same of a number, if it is missing
-abbrev pub gap_nacked_at : ℕ → List Gap → Opt
+abbrev pub gap_nacked_at : ℕ → List Gap → Option ℕ
 gap_nacked_at n l = once_of (gap_of n l)
 
 unfoldable pub is_of : ℕ → Remembered → Bool
 is_of n r = eqb r.number n
 
-unfoldable pub instant_of : List Remembered → Opt
+unfoldable pub instant_of : List Remembered → Option ℕ
 instant_of [] = None
 instant_of (r ∷ rs) = Some r.nacked_at
 
 -- the instant of the NACK of a number, if it is remembered
-abbrev pub lost_nacked_at : ℕ → List Remembered → Opt
+abbrev pub lost_nacked_at : ℕ → List Remembered → Option ℕ
 lost_nacked_at n l = instant_of (keep (is_of n) l)
 
 -- "A gap NACKed just once yields a sample when its repair comes, also too late if the number is still remembered": the estimate after a
 -- repair of a number that was NACKed at this instant, if one is told
-unfoldable pub sampled_at : ℕ → Opt → OptRtt → OptRtt
+unfoldable pub sampled_at : ℕ → Option ℕ → Option RtxRtt → Option RtxRtt
 sampled_at now None rtt = rtt
 sampled_at now (Some instant) rtt = sampled_rtt rtt (now - instant)
 

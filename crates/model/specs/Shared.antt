@@ -1,7 +1,6 @@
 -- The rules that queue and book share (Rules.antt), held to 01's own numbers without the one or the other: a wrong rule would be wrong in both, and
 -- demand 3 would not notice.
-use Rattle.std.specs.Prelude.{◌≡◌, Bool, true, List, [], ◌∷◌, ◌++◌, map, ℕ, suc, ◌+◌, ◌-◌, ◌≤◌, ◌<◌, T, leb, ltb, length}
-use Rattle.rtp.specs.declared.opt.Opt.TheVariants.{Some}
+use Rattle.std.specs.Prelude.{◌≡◌, Bool, true, List, [], ◌∷◌, ◌++◌, map, ℕ, suc, ◌+◌, ◌-◌, ◌≤◌, ◌<◌, T, leb, ltb, length, Some}
 use Rattle.config.specs.declared.RtpInboundStreamSortedQueueMode.{RtpInboundStreamSortedQueueMode}
 use Rattle.config.specs.declared.RtpInboundQueueMode.TheVariants.{Passthrough, SortedQueue}
 use Rattle.config.specs.declared.Settings.{Settings}

@@ -1,11 +1,9 @@
 -- The storage that the caller lends: which record stands in which place (docs/DESIGN.md, "Storage").
 -- Records stand in the order of their list from place 0 on; how many, the session says; unused places hold zeros.
-use Rattle.std.specs.Prelude.{Bool, true, false, ◌&&◌, ℕ, zero, suc, ◌+◌, ◌*◌, ◌/◌, ◌%◌, eqb, length, take, get_or}
+use Rattle.std.specs.Prelude.{Bool, true, false, ◌&&◌, ℕ, zero, suc, ◌+◌, ◌*◌, ◌/◌, ◌%◌, eqb, length, take, get_or, Option, None, Some}
 use mathlib.Core.List.{List, [], ◌∷◌, map, zip_with}
 use Rattle.words.specs.Words.{padded}
 use Rattle.words.specs.Blocks.{blocks, laid}
-use Rattle.rtp.specs.declared.opt.Opt.{Opt}
-use Rattle.rtp.specs.declared.opt.Opt.TheVariants.{None, Some}
 use Rattle.rtp_packet.specs.Datagram.{largest_payload}
 use Rattle.config.specs.declared.Settings.{Settings}
 use Rattle.model.specs.declared.Session.{Session}
@@ -68,11 +66,11 @@ lengths_fit set t =
 -- ---- a record as words
 
 -- 0 for a repair, else the instant and 1 more
-unfoldable pub arrival_word : Opt → ℕ
+unfoldable pub arrival_word : Option ℕ → ℕ
 arrival_word None = 0
 arrival_word (Some i) = suc i
 
-unfoldable pub arrival_of : ℕ → Opt
+unfoldable pub arrival_of : ℕ → Option ℕ
 arrival_of zero = None
 arrival_of (suc i) = Some i
 

@@ -1,5 +1,5 @@
 -- 01, "Where a call is turned back": the number of the first check that catches a call, or 0. "Checks run downwards within a call."
-use Rattle.std.specs.Prelude.{Bool, true, false, cond, ◌&&◌, ◌||◌, not, List, [], ◌∷◌, ◌++◌, ℕ, suc, ◌+◌, ◌-◌, ◌*◌, leb, ltb, length}
+use Rattle.std.specs.Prelude.{Bool, true, false, cond, ◌&&◌, ◌||◌, not, List, [], ◌∷◌, ◌++◌, ℕ, suc, ◌+◌, ◌-◌, ◌*◌, leb, ltb, length, Option, None, Some}
 use Rattle.refusals.specs.Refusals.{SETTINGS, CLOCK, no_rtx, no_media, gaps_full, entries_full, COUNT, OUTPUT, SESSION, refuse_if, or_else}
 use Rattle.durations.specs.Seconds.{largest}
 use Rattle.config.specs.declared.Settings.{Settings}
@@ -10,7 +10,7 @@ use Rattle.rtp_packet.specs.Datagram.{largest_payload, largest_repair, datagram_
 use Rattle.rtp_packet.specs.Original.{original_refusal}
 use Rattle.rtx_state.specs.declared.RtxState.{RtxState}
 use Rattle.model.specs.declared.Config.{Config}
-use Rattle.model.specs.declared.LastReceived.{LastReceived}
+use Rattle.model.specs.declared.Received.{Received}
 use Rattle.model.specs.declared.Counters.{Counters}
 use Rattle.model.specs.declared.Queue.{Queue}
 use Rattle.model.specs.Lists.{some?}
@@ -48,9 +48,9 @@ unfoldable pub rtx_refusal : Queue → ℕ
 rtx_refusal q = refuse_if (not q.config.senders.has_rtx) no_rtx
 
 -- 10
-unfoldable pub no_media_of : LastReceived → Bool
-no_media_of LastReceived.None = true
-no_media_of (LastReceived.Some r) = false
+unfoldable pub no_media_of : Option Received → Bool
+no_media_of None = true
+no_media_of (Some r) = false
 
 unfoldable pub media_first_refusal : Queue → ℕ
 media_first_refusal q = refuse_if (no_media_of q.last) no_media

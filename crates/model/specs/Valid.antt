@@ -1,15 +1,13 @@
 -- 01's table, row 16, but for the storage lengths and the settings: what makes a stored session sound.
-use Rattle.std.specs.Prelude.{Bool, true, false, ◌&&◌, not, List, ℕ, leb, ltb, length}
+use Rattle.std.specs.Prelude.{Bool, true, false, ◌&&◌, not, List, ℕ, leb, ltb, length, Option, None, Some}
 use Rattle.words.specs.Order.{ascends}
-use Rattle.rtp.specs.declared.opt.Opt.{Opt}
-use Rattle.rtp.specs.declared.opt.Opt.TheVariants.{None, Some}
+use Rattle.model.specs.declared.Received.{Received}
 use Rattle.durations.specs.Seconds.{largest}
 use Rattle.rtp_packet.specs.Datagram.{largest_payload}
 use Rattle.rtx_state.specs.Repair.{rtx_in_range}
 use Rattle.jitter.specs.Interarrival.{jitter_in_range}
 use Rattle.packet_loss.specs.Loss.{loss_in_range}
 use Rattle.config.specs.declared.Settings.{Settings}
-use Rattle.model.specs.declared.LastReceived.{LastReceived}
 use Rattle.model.specs.declared.Counters.{Counters}
 use Rattle.model.specs.declared.Queue.{Queue}
 use Rattle.model.specs.Lists.{some?, every?}
@@ -22,9 +20,9 @@ use Rattle.model.specs.Storage.{entry_places}
 -- what the numbers and instants of the lists are held against
 pub record Bounds : Type 0 where
   -- in sorted mode the last returned: entries and gaps are above it
-  pub passed : Opt
+  pub passed : Option ℕ
   -- the highest number so far
-  pub highest : Opt
+  pub highest : Option ℕ
   pub clock : ℕ
 
 unfoldable pub bounds_of : Queue → Bounds
@@ -32,16 +30,16 @@ unfolding passed_of
 bounds_of q = record { passed = passed_of q.config.settings.mode (number_of q.returned); highest = highest_of q.last; clock = q.clock }
 
 -- a gap is not "at the highest" either
-unfoldable pub under : Opt → ℕ → Bool
+unfoldable pub under : Option ℕ → ℕ → Bool
 under None n = false
 under (Some h) n = ltb n h
 
 -- "in sorted mode not above the last returned" is damage
-unfoldable pub not_passed : Opt → ℕ → Bool
+unfoldable pub not_passed : Option ℕ → ℕ → Bool
 not_passed passed n = not (at_most n passed)
 
 -- none, or not after the clock's
-unfoldable pub by_clock : ℕ → Opt → Bool
+unfoldable pub by_clock : ℕ → Option ℕ → Bool
 by_clock clock None = true
 by_clock clock (Some i) = leb i clock
 
@@ -53,7 +51,7 @@ gaps_sound b gaps = ascends (gap_numbers gaps) && every? (gap_sound b) gaps
 
 -- of an entry's fields and its payload's size; `missing` says that a gap has its number. The number is bounded by the highest, which
 -- `last_sound` keeps within 2^52 − 1.
-unfoldable pub fields_sound : Bounds → (missing : Bool) (number timestamp : ℕ) → Opt → (size : ℕ) → Bool
+unfoldable pub fields_sound : Bounds → (missing : Bool) (number timestamp : ℕ) → Option ℕ → (size : ℕ) → Bool
 fields_sound b missing number timestamp arrival size =
     at_most number b.highest
     && (not_passed b.passed number
@@ -76,11 +74,11 @@ lists_sound s =
     let b = bounds_of s.queue in
     gaps_sound b s.gaps && (entries_sound b s.gaps s.entries && every? (remembered_sound s.queue.clock) s.remembered)
 
-unfoldable pub last_sound : ℕ → LastReceived → Bool
-last_sound clock LastReceived.None = true
-last_sound clock (LastReceived.Some r) = leb r.instant clock && (leb r.timestamp.0 largest && leb r.number.0 largest)
+unfoldable pub last_sound : ℕ → Option Received → Bool
+last_sound clock None = true
+last_sound clock (Some r) = leb r.instant clock && (leb r.timestamp.0 largest && leb r.number.0 largest)
 
-unfoldable pub returned_sound : Opt → Opt → Bool
+unfoldable pub returned_sound : Option ℕ → Option ℕ → Bool
 returned_sound highest None = true
 returned_sound highest (Some n) = at_most n highest
 

@@ -13,7 +13,6 @@ ghost use Rattle.model.specs.Unaltered.{Unaltered};
 use config::{Senders, Settings};
 use jitter::Jitter;
 use packet_loss::PacketLoss;
-use rtp::opt::OptNumber;
 use rtp::{ExtendedRtpTimestamp, ExtendedSequenceNumber};
 use rtx_state::RtxState;
 
@@ -33,12 +32,6 @@ pub struct Received {
 }
 
 #[derive(Clone, Copy)]
-pub enum LastReceived {
-    None,
-    Some(Received),
-}
-
-#[derive(Clone, Copy)]
 pub struct Counters {
     pub dropped: u64,
     pub received: u64,
@@ -52,9 +45,9 @@ pub struct Queue {
     pub config: Config,
     // The latest accepted instant, in nanoseconds.
     pub clock: u64,
-    pub last: LastReceived,
+    pub last: Option<Received>,
     // The number that `poll` returned last, or that was pushed out last.
-    pub returned: OptNumber,
+    pub returned: Option<ExtendedSequenceNumber>,
     pub rtx: RtxState,
     pub counters: Counters,
     pub jitter: Jitter,
@@ -62,6 +55,7 @@ pub struct Queue {
 }
 
 // The session: the queue, and how many places of the lent storage each of its lists fills.
+// Stays: the lists lie in lent storage (no heap), and the session has their counts.
 #[derive(Clone, Copy)]
 pub struct Session {
     pub queue: Queue,

@@ -2,22 +2,22 @@
 use mathlib.Core.Path.{◌≡◌, refl, sym, ap, ◌∙◌, subst}
 use mathlib.Core.Logic.{inl}
 use mathlib.Core.Bool.{Bool, true, false, not}
-use Prim.Native.Nat.{ℕ, ◌+◌, ◌-◌, ◌*◌, ◌/◌, ◌%◌, ◌^◌, ◌≤◌, ◌<◌}
+use Prim.Native.Nat.{ℕ, ◌+◌, ◌-◌, ◌*◌, ◌/◌, ◌%◌, ◌^◌, ◌≤◌, ◌<◌, min, max}
 use native.Mathlib.Nat.{le_of_eq, le_of_lt, le_trans, lt_of_lt_of_le, one-mul, mul_comm, mul_assoc, mul_right_comm, mul-le-mul, mul-le-mul_right, le_of_mul-le-mul_right, eq_of_mul-eq-mul_right, mod-lt}
 use native.Mathlib.Omega.{arith}
 use borrow.Author.Tests.{le-leb, leb-true}
 use lib.IntN.{pos}
 use lib.Dec.{T, leb, leb→le, nleb→lt, le→leb, lit≤, lit<}
-use lib.Pow.{pow_pos, pow-add, pow_mono, pow-lt, shl_lt, shl_exact}
+use lib.Pow.{pow_pos, pow-add, pow_mono, shl_lt, shl_exact}
 use lib.Ieee.{Float, fin, binary32, of_bits, to_bits, fits, le}
 use lib.Ieee.Fits.{and_l, and_r}
 use lib.Ieee.Positive.{num, den, den_pos}
 use Rattle.packet_loss.specs.Loss.{zero32, one32, loss_in_range}
 use Rattle.packet_loss.specs.declared.PacketLoss.{PacketLoss}
-use Rattle.float_laws.proofs.Pattern.{lead, expo, frac, lead-lt, lead_ge, lead_is, pattern}
+use Rattle.float_laws.proofs.Pattern.{lead, lead-lt, lead_ge, lead_is, pattern}
 use Rattle.float_laws.proofs.Upto.{NonNeg, nought, nonneg_between, le→cross}
 use Rattle.nack_attempts.specs.Attempts.{least, not_below, loss_of}
-use Rattle.nack_attempts.proofs.Least.{least_at, least-same, least_mono, test_same, up, up-low, up-high, up-between}
+use Rattle.nack_attempts.proofs.Least.{least_at, least-same, least_mono, test_same, clamped}
 
 zero_is : zero32 ≡ nought
 unfolding of_bits
@@ -45,7 +45,10 @@ module _ (x : Float) (lo : T (le zero32 x)) (hi : T (le x one32)) where
       scaled = mul_assoc 10000 (num x) d ∙ ap (λ (k : ℕ). 10000 * k) e ∙ sym (mul_assoc 10000 a (den x)) ∙ ap (λ (k : ℕ). k * den x) (mul_comm 10000 a)
 
   -- ---- by the bits b
-  module _ (F : T (fits binary32 x)) (b : ℕ) (is : b ≡ to_bits binary32 x) where
+  module _ (F : fits binary32 x ≡ true) where
+    abbrev b : ℕ
+    b = to_bits binary32 x
+
     abbrev e : ℕ
     e = b / 8388608 % 256
 
@@ -53,7 +56,7 @@ module _ (x : Float) (lo : T (le zero32 x)) (hi : T (le x one32)) where
     q = lead binary32 e (b % 8388608)
 
     v : num x * 2 ^ 149 ≡ q * 2 ^ (e - 1) * den x
-    v = subst (λ (k : ℕ). num x * 2 ^ 149 ≡ lead binary32 (expo binary32 k) (frac binary32 k) * 2 ^ (expo binary32 k - 1) * den x) (sym is) (pattern binary32 x F nonneg)
+    v = pattern binary32 x (subst T (sym F) tt) nonneg
 
     -- what the test on the exponent's field leaves is below a ten thousandth
     tiny : e < 112 → q * 2 ^ (e - 1) * 1000 ≤ 2 ^ 149
@@ -94,46 +97,35 @@ module _ (x : Float) (lo : T (le zero32 x)) (hi : T (le x one32)) where
 
     -- ---- from the field 112 on: what the code works out, by its names
     module _ (big : 112 ≤ e) where
-      abbrev pub digits : ℕ
+      abbrev digits : ℕ
       digits = b % 8388608 + 8388608
-
-      pub shift_lt : 150 - e < 39
-      shift_lt = omega arith
-
-      -- the code's unit, `1 << (150 - exponent)`
-      pub unit_is : 1 * 2 ^ (150 - e) % 2 ^ 64 ≡ 2 ^ (150 - e)
-      unit_is = shl_exact 1 (150 - e) 64 (lit< tt) (let h = shift_lt in omega arith) ∙ one-mul (2 ^ (150 - e))
 
       shifts : (150 - e) + (e - 1) ≡ 149
       shifts = let h = field-le in omega arith
 
-      -- with the unit as the code has it, u: x is digits / u
-      module _ (u : ℕ) (unit : u ≡ 2 ^ (150 - e)) where
-        pub u_pos : 0 < u
-        u_pos = subst (λ (k : ℕ). 0 < k) (sym unit) (pow_pos (150 - e))
+      -- the code's unit, `1 << (150 - exponent)`: x is digits / u
+      abbrev u : ℕ
+      u = 1 * 2 ^ (150 - e) % 2 ^ 64
 
-        pub u_lt : u < 2 ^ 39
-        u_lt = subst (λ (k : ℕ). k < 2 ^ 39) (sym unit) (pow-lt shift_lt)
+      unit_is : u ≡ 2 ^ (150 - e)
+      unit_is = shl_exact 1 (150 - e) 64 (lit< tt) (omega arith) ∙ one-mul (2 ^ (150 - e))
 
-        value : num x * u ≡ digits * den x
-        value =
-            let p : 0 < e = omega arith in
-            let t : num x * 2 ^ (150 - e) ≡ q * den x =
-            eq_of_mul-eq-mul_right (2 ^ (e - 1)) (pow_pos (e - 1)) (num x * 2 ^ (150 - e)) (q * den x)
-            (mul_assoc (num x) (2 ^ (150 - e)) (2 ^ (e - 1)) ∙ ap (λ (k : ℕ). num x * k) (sym (pow-add 2 (150 - e) (e - 1)) ∙ ap (λ (k : ℕ). 2 ^ k) shifts) ∙ v ∙ mul_right_comm q (2 ^ (e - 1)) (den x)) in
-            ap (λ (k : ℕ). num x * k) unit ∙ t ∙ ap (λ (k : ℕ). k * den x) (lead_is binary32 e (b % 8388608) p)
+      pub unit_pos : 0 < u
+      unit_pos = subst (λ (k : ℕ). 0 < k) (sym unit_is) (pow_pos (150 - e))
 
-        at_unit : loss_of x ≡ least 10 9900 (λ j. leb (digits * 10000) (j * u))
-        at_unit = by_ratio digits u u_pos value
+      value : num x * u ≡ digits * den x
+      value =
+          let p : 0 < e = omega arith in
+          let t : num x * 2 ^ (150 - e) ≡ q * den x =
+          eq_of_mul-eq-mul_right (2 ^ (e - 1)) (pow_pos (e - 1)) (num x * 2 ^ (150 - e)) (q * den x)
+          (mul_assoc (num x) (2 ^ (150 - e)) (2 ^ (e - 1)) ∙ ap (λ (k : ℕ). num x * k) (sym (pow-add 2 (150 - e) (e - 1)) ∙ ap (λ (k : ℕ). 2 ^ k) shifts) ∙ v ∙ mul_right_comm q (2 ^ (e - 1)) (den x)) in
+          ap (λ (k : ℕ). num x * k) unit_is ∙ t ∙ ap (λ (k : ℕ). k * den x) (lead_is binary32 e (b % 8388608) p)
 
-        pub low : up (digits * 10000) u u_pos ≤ 10 → 10 ≡ loss_of x
-        low h = up-low (digits * 10000) u u_pos 10 9900 (omega arith) h ∙ sym at_unit
+      pub loss_is : max 10 (min (digits * 10000 / u + min 1 (digits * 10000 % u)) 9900) ≡ loss_of x
+      loss_is = clamped (digits * 10000) u unit_pos 10 9900 (omega arith) ∙ sym (by_ratio digits u unit_pos value)
 
-        pub high : 9900 < up (digits * 10000) u u_pos → 9900 ≡ loss_of x
-        high h = up-high (digits * 10000) u u_pos 10 9900 (omega arith) h ∙ sym at_unit
-
-        pub between : 10 ≤ up (digits * 10000) u u_pos → up (digits * 10000) u u_pos ≤ 9900 → up (digits * 10000) u u_pos ≡ loss_of x
-        between h k = up-between (digits * 10000) u u_pos 10 9900 (omega arith) h k ∙ sym at_unit
+-- what the check of `loss_of` needs
+pub ruleset rounding = (nonneg, least-loss, field-le, unit_pos, loss_is)
 
 -- ---- more loss is no smaller k
 

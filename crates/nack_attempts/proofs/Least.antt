@@ -1,11 +1,12 @@
 -- The least number that passes a test: where it is, that it falls where more passes, and where the test is one against a fraction.
 use mathlib.Core.Path.{◌≡◌, refl, sym, ap, ◌∙◌}
 use mathlib.Core.Bool.{Bool, true, false, cond}
-use Prim.Native.Nat.{ℕ, zero, suc, ◌+◌, ◌*◌, ◌-◌, ◌/◌, ◌≤◌, ◌<◌}
-use native.Mathlib.Nat.{le_trans, le_of_eq, suc-mul, mul_right_comm, mul-le-mul_right, le_of_mul-le-mul_right, mod-lt, div-add-mod'}
+use Prim.Native.Nat.{ℕ, zero, suc, ◌+◌, ◌*◌, ◌-◌, ◌/◌, ◌%◌, ◌≤◌, ◌<◌, min, max}
+use native.Mathlib.Nat.{le_trans, le_of_eq, suc-mul, mul_right_comm, mul-le-mul_right, le_of_mul-le-mul_right}
 use native.Mathlib.Omega.{arith}
 use borrow.Author.Tests.{le-leb, lt-leb, leb-true, leb-false, ltb-true, ltb-false}
 use lib.Dec.{leb, ltb}
+use Rattle.std.proofs.lemmas.Grind.{div_ceil_times}
 use Rattle.nack_attempts.specs.Attempts.{least_from, least}
 
 module _ (P : ℕ → Bool) where
@@ -76,28 +77,24 @@ test_same a b c d j B D e = go (leb a (j * b)) (leb c (j * d)) refl refl
     go true false x y = absurd (omega (arith, there (leb-true a (j * b) x), leb-false c (j * d) y))
     go false true x y = absurd (omega (arith, back (leb-true c (j * d) y), leb-false a (j * b) x))
 
--- a / u rounded up, as the code works it out, is the least number whose u-fold is not below a
+-- a / u rounded up is the least number whose u-fold is not below a
 module _ (a u : ℕ) (U : 0 < u) where
-  abbrev pub up : ℕ
-  up = (a + (u - 1)) / u
+  -- as `div_ceil` of the library has it
+  abbrev up : ℕ
+  up = a / u + min 1 (a % u)
 
   passes : (j : ℕ) → up ≤ j → leb a (j * u) ≡ true
   passes j h =
       let p : up * u ≤ j * u = mul-le-mul_right u h in
-      le-leb a (j * u) (omega (arith, div-add-mod' (a + (u - 1)) u, mod-lt (a + (u - 1)) U))
+      le-leb a (j * u) (omega (arith, (div_ceil_times a u U).0))
 
   fails : (j : ℕ) → j < up → leb a (j * u) ≡ false
   fails j h =
       let p : suc j * u ≤ up * u = mul-le-mul_right u h in
       let q : suc j * u ≡ j * u + u = suc-mul j u in
-      lt-leb a (j * u) (omega (arith, div-add-mod' (a + (u - 1)) u, mod-lt (a + (u - 1)) U))
+      lt-leb a (j * u) (omega (arith, (div_ceil_times a u U).1))
 
-  module _ (low high : ℕ) (h : low ≤ high) where
-    pub up-low : up ≤ low → low ≡ least low high (λ j. leb a (j * u))
-    up-low l = sym (least_at (λ j. leb a (j * u)) (high - low) low low (omega arith) (omega arith) (λ k p q. absurd (omega arith)) (λ p. passes low l))
-
-    pub up-high : high < up → high ≡ least low high (λ j. leb a (j * u))
-    up-high l = sym (least_at (λ j. leb a (j * u)) (high - low) low high h (omega arith) (λ k p q. fails k (omega arith)) (λ p. absurd (omega arith)))
-
-    pub up-between : low ≤ up → up ≤ high → up ≡ least low high (λ j. leb a (j * u))
-    up-between l m = sym (least_at (λ j. leb a (j * u)) (high - low) low up l (omega arith) (λ k p q. fails k q) (λ p. passes up (omega arith)))
+  -- and kept from low to high it is the least of those
+  pub clamped : (low high : ℕ) → low ≤ high → max low (min up high) ≡ least low high (λ j. leb a (j * u))
+  clamped low high h =
+      sym (least_at (λ j. leb a (j * u)) (high - low) low (max low (min up high)) (omega arith) (omega arith) (λ k p q. fails k (omega arith)) (λ p. passes (max low (min up high)) (omega arith)))

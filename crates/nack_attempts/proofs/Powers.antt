@@ -86,6 +86,9 @@ module _ (k t max n power bound : ℕ) (r : Trying k t max n power bound) where
         let c : bound ≤ 1000000000000 = omega (arith, r.bound_is) in
         omega arith
 
+-- what the two returns of `attempts_of` need
+pub ruleset trials = (trying_found, trying_none)
+
 -- ---- a larger k, no fewer attempts
 
 pub attempts_grow : (k k' t max : ℕ) → k ≤ k' → attempts_of k t max ≤ attempts_of k' t max

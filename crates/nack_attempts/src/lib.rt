@@ -14,19 +14,14 @@ const MOST_LOSS: u64 = 9900;
 
 const WHOLE: u64 = 10000;
 
-fn wide(x: u32) -> u64
-    ensures { result ≡ x }
-{
-    x as u64
-}
-
 // The least whole number of ten thousandths, from 10 to 9,900, that is not below the loss. A loss is digits / 2^(150 - exponent).
+#[tactic(auto, using(crate::proofs::Bits::rounding))]
 pub fn loss_of(loss: f32) -> u64
-    requires fact_1 { T (le zero32 loss) }
-    requires fact_2 { T (le loss one32) }
+    requires not_below_zero { T (le zero32 loss) }
+    requires at_most_one { T (le loss one32) }
     ensures { result ≡ loss_of loss }
 {
-    let bits = wide(f32::to_bits(loss));
+    let bits = u64::from(f32::to_bits(loss));
     let exponent = bits / 8388608 % 256;
     // below 2^-15, which is less than a ten thousandth
     if exponent < 112 {
@@ -34,33 +29,25 @@ pub fn loss_of(loss: f32) -> u64
     }
     let digits = bits % 8388608 + 8388608;
     let unit = 1u64 << (150 - exponent);
-    let up = (digits * WHOLE + (unit - 1)) / unit;
-    if up < LEAST_LOSS {
-        return LEAST_LOSS;
-    }
-    if MOST_LOSS < up {
-        return MOST_LOSS;
-    }
-    up
+    (digits * WHOLE).div_ceil(unit).clamp(LEAST_LOSS, MOST_LOSS)
 }
 
 // The least number of attempts that leaves at most 1 - t of a loss k, or `max`.
+#[tactic(auto, using(crate::proofs::Powers::trials))]
 pub fn attempts_of(k: u64, t: u64, max: u64) -> u64
     requires { (k ≤ 10000) × (t ≤ 9999) × (1 ≤ max) × (max ≤ 4) }
     ensures { result ≡ attempts_of k t max }
 {
-    let mut n = 1;
     let mut power = k;
     let mut bound = WHOLE - t;
-    while n < max {
+    for n in 1..max {
         if power <= bound {
             return n;
         }
         power *= k;
         bound *= WHOLE;
-        n += 1;
     }
-    n
+    max
 }
 
 // ---- theorems

@@ -19,8 +19,7 @@ use Rattle.refusals.specs.Refusals.{refuse_if, or_else}
 use Rattle.nack_pairs.specs.Pairs.{pairs, put_if, marked, named}
 use Rattle.nack_pairs.specs.Wire.{entries}
 use Rattle.nack_pairs.specs.Reader.{named16, numbers_in, read_refusal, read_answer, list_after}
-use Rattle.nack_pairs.specs.declared.read.ReadAnswer.{ReadAnswer}
-use Rattle.nack_pairs.specs.declared.read.ReadAnswer.TheVariants.{Numbers, Refused}
+use Rattle.std.specs.Prelude.{Result, Ok, Err}
 use Rattle.nack_pairs.proofs.Back.{length-named16, entries-back}
 use Rattle.nack_pairs.proofs.Writing.{length-wire}
 
@@ -48,7 +47,6 @@ names first left k = map (low_bits 16) (marked (17 - k) (first + k) left)
 pub record Unmasking (first mask : ℕ) (part₀ part : List ℕ) (count left k : ℕ) : Type 0 where
   pub wrote : Writing (named16 first mask) part₀ part (length (named16 first mask)) count
   pub rest : drop count (named16 first mask) ≡ names first left k
-  pub upto : k ≤ 17
 
 -- the first number is stored before the loop
 pub unmasking_none : (first mask : ℕ) (part : List ℕ) → 17 ≤ length part → first < 65536 → Unmasking first mask (set part 0 first) (set part 0 first) 1 mask 1
@@ -60,7 +58,6 @@ unmasking_none first mask (y ∷ ys) h f =
     record {
       wrote = record { source = omega arith; room = omega arith; upto = omega arith; same = refl; now = ap (λ (v : ℕ). v ∷ ys) m };
       rest = refl;
-      upto = omega arith;
     }
 
 pub over_first : (first mask v : ℕ) (part : List ℕ) → over (named16 first mask) (set part 0 v) ≡ over (named16 first mask) part
@@ -68,7 +65,7 @@ unfolding named16 named over
 over_first first mask v [] = refl
 over_first first mask v (y ∷ ys) = refl
 
-module _ (first mask : ℕ) (part₀ part : List ℕ) (count left k : ℕ) (u : Unmasking first mask part₀ part count left k) (h : k < 17) where
+module _ {first mask : ℕ} {part₀ part : List ℕ} {count left k : ℕ} (u : Unmasking first mask part₀ part count left k) (h : k < 17) where
   next_left : (b : Bool) → eqb (left % 2) 1 ≡ b → names first left k ≡ map (low_bits 16) (put_if b (first + k) (marked (17 - (k + 1)) (first + (k + 1)) (left / 2)))
   unfolding marked
   next_left b e =
@@ -90,22 +87,24 @@ module _ (first mask : ℕ) (part₀ part : List ℕ) (count left k : ℕ) (u : 
       record {
         wrote = writing_more (named16 first mask) part₀ part (length (named16 first mask)) count v u.wrote g.inside (w ∙ sym g.here);
         rest = g.rest;
-        upto = omega arith;
       }
 
   pub unmasking_clear : (left % 2 ≡ 1 → ⊥) → Unmasking first mask part₀ part count (left / 2) (k + 1)
-  unmasking_clear e = record { wrote = u.wrote; rest = u.rest ∙ next_left false (ne_eqb (left % 2) 1 e); upto = omega arith }
+  unmasking_clear e = record { wrote = u.wrote; rest = u.rest ∙ next_left false (ne_eqb (left % 2) 1 e) }
 
-pub unmasked : (first mask : ℕ) (part₀ part : List ℕ) (count left k : ℕ) → Unmasking first mask part₀ part count left k → 17 ≤ k
+pub unmasked : {first mask : ℕ} {part₀ part : List ℕ} {count left k : ℕ} → Unmasking first mask part₀ part count left k → 17 ≤ k
     → (count ≡ length (named16 first mask)) × (part ≡ over (named16 first mask) part₀)
 unfolding marked
-unmasked first mask part₀ part count left k u h =
+unmasked {first} {mask} {part₀} {part} {count} {left} {k} u h =
     let e : 17 - k ≡ 0 = omega arith in
     let d : drop count (named16 first mask) ≡ [] = u.rest ∙ ap (λ (j : ℕ). map (low_bits 16) (marked j (first + k) left)) e in
     let l : length (drop count (named16 first mask)) ≡ 0 = ap length d in
     let m = length-drop count (named16 first mask) in
     let n : count ≡ length (named16 first mask) = omega (arith, u.wrote.upto) in
     (n, u.wrote.now ∙ ap (λ (q : List ℕ). over q part₀) (take_all count (named16 first mask) (omega arith)))
+
+-- what bounds the reader's counts
+pub ruleset unmasking = (unmasking_in, length-named16)
 
 -- ---- entry after entry
 
@@ -116,10 +115,9 @@ module _ (bytes : List ℕ) where
     pub left : drop count (numbers_in bytes) ≡ numbers_in (drop (4 * i) bytes)
     pub within : count ≤ length (numbers_in bytes)
     pub few : count ≤ 17 * i
-    pub upto : i ≤ length bytes / 4
 
   pub reading_none : (list : List ℕ) → Reading list list 0 0
-  reading_none list = record { wrote = sym (over_nil list); same = refl; left = refl; within = omega arith; few = omega arith; upto = omega arith }
+  reading_none list = record { wrote = sym (over_nil list); same = refl; left = refl; within = omega arith; few = omega arith }
 
   entry_at : (i : ℕ) → i < length bytes / 4
       → numbers_in (drop (4 * i) bytes) ≡ named16 (256 * get_or bytes (4 * i) 0 + get_or bytes (4 * i + 1) 0) (256 * get_or bytes (4 * i + 2) 0 + get_or bytes (4 * i + 3) 0) ++ numbers_in (drop (4 * (i + 1)) bytes)
@@ -140,7 +138,7 @@ module _ (bytes : List ℕ) where
       ∙ ap (λ (k : ℕ). get_or bytes (4 * i) 0 ∷ get_or bytes (4 * i + 1) 0 ∷ get_or bytes (4 * i + 2) 0 ∷ get_or bytes (4 * i + 3) 0 ∷ drop k bytes) e in
       ap numbers_in d
 
-  module _ (list₀ list : List ℕ) (count i : ℕ) (r : Reading list₀ list count i) (h : i < length bytes / 4) (room : 17 * (length bytes / 4) ≤ length list₀) where
+  module _ {list₀ list : List ℕ} {count i : ℕ} (r : Reading list₀ list count i) (h : i < length bytes / 4) (room : 17 * (length bytes / 4) ≤ length list₀) where
     reading_next : (N new : List ℕ) → N ≡ named16 (256 * get_or bytes (4 * i) 0 + get_or bytes (4 * i + 1) 0) (256 * get_or bytes (4 * i + 2) 0 + get_or bytes (4 * i + 3) 0)
         → new ≡ written count N list → Reading list₀ new (count + length N) (i + 1)
     reading_next N new e w =
@@ -159,7 +157,6 @@ module _ (bytes : List ℕ) where
           left = sym (drop-drop (length N) count Q) ∙ ap (drop (length N)) d ∙ drop-append_seam N rest;
           within = omega (arith, length-drop count Q);
           few = omega (arith, r.few);
-          upto = omega arith;
         }
 
     pub reading_more : (first mask more : ℕ) (new : List ℕ) → first ≡ 256 * get_or bytes (4 * i) 0 + get_or bytes (4 * i + 1) 0
@@ -170,9 +167,9 @@ module _ (bytes : List ℕ) where
         let g : mask ≡ 256 * get_or bytes (4 * i + 2) 0 + get_or bytes (4 * i + 3) 0 = em ∙ ap (λ (j : ℕ). 256 * get_or bytes (4 * i + 2) 0 + get_or bytes j 0) e in
         rw k (reading_next (named16 first mask) new (ap₂ named16 ef g) w)
 
-  pub reading_all : (list₀ list : List ℕ) (count i : ℕ) → Reading list₀ list count i → length bytes % 4 ≡ 0 → length bytes / 4 ≤ i → (count ≡ length (numbers_in bytes)) × (list ≡ over (numbers_in bytes) list₀)
+  pub reading_all : {list₀ list : List ℕ} {count i : ℕ} → Reading list₀ list count i → length bytes % 4 ≡ 0 → length bytes / 4 ≤ i → (count ≡ length (numbers_in bytes)) × (list ≡ over (numbers_in bytes) list₀)
   unfolding numbers_in
-  reading_all list₀ list count i r e h =
+  reading_all {list₀} {list} {count} {i} r e h =
       let z : drop (4 * i) bytes ≡ [] = drop_of_length-le bytes {i = 4 * i} (omega arith) in
       let d : drop count (numbers_in bytes) ≡ [] = r.left ∙ ap numbers_in z in
       let l : length (drop count (numbers_in bytes)) ≡ 0 = ap length d in
@@ -183,11 +180,11 @@ module _ (bytes : List ℕ) where
 -- ---- the answers
 
 module _ (bytes list : List ℕ) where
-  pub record Answered (answer : ReadAnswer) (after : List ℕ) : Type 0 where
+  pub record Answered (answer : Result ℕ ℕ) (after : List ℕ) : Type 0 where
     pub told : answer ≡ read_answer bytes (length list)
     pub kept : after ≡ list_after bytes list
 
-  pub too_short : length list / 17 < length bytes / 4 → Answered (Refused 15) list
+  pub too_short : length list / 17 < length bytes / 4 → Answered (Err 15) list
   unfolding read_answer list_after read_refusal refuse_if or_else
   too_short h = let t = lt-ltb (length list) (17 * (length bytes / 4)) (omega arith) in record { told = rw t; kept = rw t }
 
@@ -195,18 +192,18 @@ module _ (bytes list : List ℕ) where
     enough : ltb (length list) (17 * (length bytes / 4)) ≡ false
     enough = le-ltb (length list) (17 * (length bytes / 4)) (omega arith)
 
-    pub not-whole : (length bytes % 4 ≡ 0 → ⊥) → Answered (Refused 17) list
+    pub not-whole : (length bytes % 4 ≡ 0 → ⊥) → Answered (Err 17) list
     unfolding read_answer list_after read_refusal refuse_if or_else
     not-whole e = record { told = rw (enough, ne_eqb (length bytes % 4) 0 e); kept = rw (enough, ne_eqb (length bytes % 4) 0 e) }
 
-    pub was_read : length bytes % 4 ≡ 0 → (count : ℕ) (after : List ℕ) → count ≡ length (numbers_in bytes) → after ≡ over (numbers_in bytes) list → Answered (Numbers count) after
+    pub was_read : length bytes % 4 ≡ 0 → (count : ℕ) (after : List ℕ) → count ≡ length (numbers_in bytes) → after ≡ over (numbers_in bytes) list → Answered (Ok count) after
     unfolding read_answer list_after read_refusal refuse_if or_else
     was_read e count after a b = record { told = rw (enough, eq-eqb (length bytes % 4) 0 e, a); kept = rw (enough, eq-eqb (length bytes % 4) 0 e) b }
 
 -- ---- what the writer makes, the reader takes
 
 pub entries-taken : (xs list : List ℕ) → ascends xs ≡ true → 17 * length (pairs xs) ≤ length list
-    → (read_answer (entries xs) (length list) ≡ Numbers (length xs)) × (list_after (entries xs) list ≡ over (map (low_bits 16) xs) list)
+    → (read_answer (entries xs) (length list) ≡ Ok (length xs)) × (list_after (entries xs) list ≡ over (map (low_bits 16) xs) list)
 unfolding entries
 entries-taken xs list a h =
     let l = length-wire (pairs xs) in

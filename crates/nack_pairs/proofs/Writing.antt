@@ -253,15 +253,9 @@ named_more xs n m out₀ out new x k r e w =
 
 -- ---- what the code's steps have to know
 
-pub positive : (n : ℕ) → (n ≡ 0 → ⊥) → 0 < n
+positive : (n : ℕ) → (n ≡ 0 → ⊥) → 0 < n
 positive zero h = absurd (h refl)
 positive (suc n) h = omega arith
-
-abbrev pub mk_naming : ℕ → ℕ → ℕ → Naming
-mk_naming bytes first mask = record { bytes = bytes; first = first; mask = mask }
-
-abbrev pub bytes_of_lem : Naming → ℕ
-bytes_of_lem n = n.bytes
 
 module _ (n : Naming) (x : ℕ) where
   pub shifted : x - n.first ≤ 16 → 1 * 2 ^ (x - n.first - 1) % 2 ^ 64 ≡ bit n.first x
@@ -278,7 +272,10 @@ module _ (n : Naming) (x : ℕ) where
   unfolding named_next
   next_least f = go (eqb n.bytes 0) refl (within (opened n) x)
     where
-      go : (b : Bool) → eqb n.bytes 0 ≡ b → (w : Bool) → 4 ≤ (cond b (begun 4 x) (cond w (mk_naming n.bytes n.first (n.mask + bit n.first x)) (begun (n.bytes + 4) x))).bytes
+      go : (b : Bool) → eqb n.bytes 0 ≡ b → (w : Bool) → 4 ≤ (cond b (begun 4 x) (cond w (record { bytes = n.bytes; first = n.first; mask = n.mask + bit n.first x }) (begun (n.bytes + 4) x))).bytes
       go true e w = omega arith
       go false e true = f.whole (positive n.bytes (eqb-false n.bytes 0 e))
       go false e false = omega arith
+
+-- what `next` has to know
+pub ruleset naming = (next_none, next_in, next_new, shifted, fits_in, next_least)

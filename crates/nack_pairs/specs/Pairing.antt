@@ -1,12 +1,11 @@
 -- What is claimed of pairs and their bytes, for every ascending list of numbers.
-use Rattle.std.specs.Prelude.{◌≡◌, true, List, [], ◌∷◌, map, ℕ, ◌+◌, ◌*◌, ◌≤◌, ◌<◌, length}
+use Rattle.std.specs.Prelude.{◌≡◌, true, List, [], ◌∷◌, map, ℕ, ◌+◌, ◌*◌, ◌≤◌, ◌<◌, length, Ok}
 use Rattle.words.specs.Order.{ascends}
 use Rattle.words.specs.Words.{over}
 use Rattle.nack_pairs.specs.Pairs.{Pair, pairs, named_by, member}
 use Rattle.rtp.specs.Numbers.{low_bits}
 use Rattle.nack_pairs.specs.Wire.{entry_bytes, NUMBERS, entries}
 use Rattle.nack_pairs.specs.Reader.{numbers_in, read_answer, list_after}
-use Rattle.nack_pairs.specs.declared.read.ReadAnswer.TheVariants.{Numbers}
 
 -- each pair begins past the sixteen of every pair before it
 unfoldable pub Beyond : ℕ → List Pair → Type 0
@@ -29,7 +28,7 @@ pub record Pairing : Type 0 where
   pub read_back_of : (xs : List ℕ) → ascends xs ≡ true → numbers_in (entries xs) ≡ map (low_bits 16) xs
   -- so does the reader, in a list that has room: it takes the entries of every ascending list of numbers
   pub taken : (xs list : List ℕ) → ascends xs ≡ true → NUMBERS * length (pairs xs) ≤ length list
-      → (read_answer (entries xs) (length list) ≡ Numbers (length xs)) × (list_after (entries xs) list ≡ over (map (low_bits 16) xs) list)
+      → (read_answer (entries xs) (length list) ≡ Ok (length xs)) × (list_after (entries xs) list ≡ over (map (low_bits 16) xs) list)
   -- the list that the reader asks for is never too short
   pub room : (bytes : List ℕ) (k : ℕ) → length bytes < entry_bytes * k + entry_bytes → length (numbers_in bytes) ≤ NUMBERS * k
   -- across 65,535: the next and the sixteenth number after 65,535 are in its mask, the seventeenth begins a pair

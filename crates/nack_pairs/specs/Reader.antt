@@ -1,12 +1,10 @@
 -- 02, point 1, the reader: the 16-bit numbers that any bytes name, what is refused, and what is written.
-use Rattle.std.specs.Prelude.{cond, not, List, [], ◌∷◌, ◌++◌, map, ℕ, ◌+◌, ◌*◌, ◌/◌, ◌%◌, ltb, eqb, length}
+use Rattle.std.specs.Prelude.{cond, not, List, [], ◌∷◌, ◌++◌, map, ℕ, ◌+◌, ◌*◌, ◌/◌, ◌%◌, ltb, eqb, length, Result, Ok, Err}
 use Rattle.words.specs.Words.{over}
 use Rattle.rtp.specs.Numbers.{low_bits}
 use Rattle.refusals.specs.Refusals.{OUTPUT, nack_entries, refuse_if, or_else}
 use Rattle.nack_pairs.specs.Pairs.{pair, named}
 use Rattle.nack_pairs.specs.Wire.{entry_bytes, NUMBERS}
-use Rattle.nack_pairs.specs.declared.read.ReadAnswer.{ReadAnswer}
-use Rattle.nack_pairs.specs.declared.read.ReadAnswer.TheVariants.{Numbers, Refused}
 
 -- of one pair, the first number and then those of the mask from its lowest bit, modulo 65,536
 unfoldable pub named16 : ℕ → ℕ → List ℕ
@@ -30,9 +28,9 @@ read_refusal bytes room =
     (refuse_if (not (eqb (length bytes % entry_bytes) 0)) nack_entries)
 
 -- "the answer to a call that writes counts .. in a list the numbers, written"
-unfoldable pub read_answer : List ℕ → ℕ → ReadAnswer
+unfoldable pub read_answer : List ℕ → ℕ → Result ℕ ℕ
 unfolding read_refusal numbers_in
-read_answer bytes room = cond (eqb (read_refusal bytes room) 0) (Numbers (length (numbers_in bytes))) (Refused (read_refusal bytes room))
+read_answer bytes room = cond (eqb (read_refusal bytes room) 0) (Ok (length (numbers_in bytes))) (Err (read_refusal bytes room))
 
 -- "lent output after them is kept", and a refused call alters nothing
 unfoldable pub list_after : List ℕ → List ℕ → List ℕ

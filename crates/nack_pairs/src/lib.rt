@@ -15,6 +15,7 @@ pub mod read;
 pub const ENTRY_BYTES: usize = 4;
 
 // How far the entries go, and the last pair, which may still name more; where there are no bytes there is none.
+// Stays: the entries lie in the lent output, and this says how far they go.
 #[derive(Clone, Copy)]
 pub struct Naming {
     pub bytes: usize,
@@ -22,6 +23,7 @@ pub struct Naming {
     pub mask: u64,
 }
 
+// Stays: no bytes are named yet: a name says more than a default.
 pub fn none_named() -> Naming
     ensures { result.bytes ≡ 0 }
 {
@@ -33,6 +35,7 @@ pub fn none_named() -> Naming
 }
 
 // n with x named too, which is above the numbers that were named.
+#[tactic(auto, using(crate::proofs::Writing::naming))]
 fn next(n: Naming, x: u64) -> Naming
     requires { Follows n x }
     ensures { result ≡ named_next n x }
@@ -44,13 +47,11 @@ fn next(n: Naming, x: u64) -> Naming
             mask: 0,
         };
     }
-    let first = n.first;
-    let above = x - first;
+    let above = x - n.first;
     if above <= 16 {
         return Naming {
-            bytes: n.bytes,
-            first,
             mask: n.mask + (1u64 << (above - 1)),
+            ..n
         };
     }
     Naming {
@@ -61,20 +62,18 @@ fn next(n: Naming, x: u64) -> Naming
 }
 
 // The pair's bytes at `at`.
+#[tactic(auto, unfolding(crate::specs::Wire::bytes_of))]
 fn put(out: &mut [u8], at: usize, first: u64, mask: u64)
     requires { at + entry_bytes ≤ length out.old }
     ensures { out.new ≡ written at (bytes_of (pair first mask)) out.old }
 {
-    let entry = [
-        (first / 256 % 256) as u8,
-        (first % 256) as u8,
-        (mask / 256 % 256) as u8,
-        (mask % 256) as u8,
-    ];
-    words::octets::copy(&entry, &mut out[at..]);
+    let [first_high, first_low] = ((first % 65536) as u16).to_be_bytes();
+    let [mask_high, mask_low] = ((mask % 65536) as u16).to_be_bytes();
+    words::write(out, at, &[first_high, first_low, mask_high, mask_low]);
 }
 
 // Names x, which is above the numbers that were named, and writes its pair where it stands: over the last pair, or after it.
+#[tactic(auto, using(crate::proofs::Writing::next_least))]
 pub fn name(n: Naming, x: u64, out: &mut [u8]) -> Naming
     requires follows { Follows n x }
     requires x_in_bounds { (named_next n x).bytes ≤ length out.old }

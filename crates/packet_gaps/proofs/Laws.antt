@@ -8,21 +8,20 @@ use native.Mathlib.Omega.{arith}
 use lib.Dec.{eqb, leb, ltb}
 use lib.ListN.{length, take, drop, get_or, replicate, length-map, get_or-map}
 use lib.Seq.{length-take-le}
-use borrow.Author.Tests.{ltb-true, ltb-false, leb-true, leb-false, lt-ltb, le-ltb, ne_eqb}
-use Rattle.words.specs.Words.{over, cut}
+use borrow.Author.Tests.{ltb-true, ltb-false, leb-true, le-ltb, ne_eqb}
+use Rattle.words.specs.Words.{over, cut, padded}
 use Rattle.words.specs.Blocks.{firsts, laid}
 use Rattle.words.specs.Order.{ascends, rank}
 use Rattle.words.proofs.Blocked.{word_at, length-firsts, first-at}
-use Rattle.words.proofs.Records.{Holds, record_at, records_firsts, holds-cut, holds-drop}
+use Rattle.words.proofs.Records.{Holds, record_at, records_firsts, holds-cut, holds-drop, tidied_laid}
 use Rattle.words.proofs.Ordered.{and_left, and_right, ascends-lt, ascends_tail, rank-le, member-rank, member_past}
 use Rattle.words.proofs.Forms.{records_of, member}
 use Rattle.durations.specs.Seconds.{largest}
-use Rattle.config.specs.declared.NackTimings.{NackTimings}
 use Rattle.model.specs.Lists.{keep, some?, every?}
 use Rattle.model.specs.Records.{Gap, gap_numbers}
-use Rattle.model.specs.Rules.{is, below, gap_of, without, gaps_below, gaps_from, due}
+use Rattle.model.specs.Rules.{is, below, gap_of, without, gaps_below, gaps_from}
 use Rattle.model.specs.Storage.{gap_words, gap_words_of, gap_of_words, gaps_of}
-use Rattle.model.proofs.Laid.{gaps-held, length-gaps_of}
+use Rattle.model.proofs.Laid.{gaps-held, gap_coded, length-gaps_of}
 use Rattle.packet_gaps.specs.Gaps.{GapsIn, instants_fit}
 use Rattle.packet_gaps.proofs.Turns.{every-at}
 
@@ -179,14 +178,12 @@ module _ (s : List ℕ) (n : ℕ) (k : GapsIn s n) where
       → over (cut 0 (gap_words * j) (take (gap_words * n) s) ++ replicate (gap_words * j) 0) s ≡ laid gap_words_of (length s) (drop j (gaps_of s n))
   gaps-drop = holds-drop all_held
 
--- ---- tests
+-- a gap is read of its words and written as them again
+pub tidied : (n : ℕ) (s : List ℕ) → gap_words * n ≤ length s → padded (length s) (take (gap_words * n) s) ≡ laid gap_words_of (length s) (gaps_of s n)
+unfolding gaps_of records_of
+tidied n s h = tidied_laid gap_coded n s h
 
-pub not-at_or_below : (m x : ℕ) → ltb m x ≡ not (leb x m)
-not-at_or_below m x = go (leb x m) refl
-  where
-    go : (b : Bool) → leb x m ≡ b → ltb m x ≡ not b
-    go true e = le-ltb m x (leb-true x m e)
-    go false e = lt-ltb m x (leb-false x m e)
+-- ---- tests
 
 pub instants : (g : Gap) → instants_fit g ≡ true → (g.detected ≤ largest) × (g.nacked_at ≤ largest)
 unfolding instants_fit
@@ -203,6 +200,8 @@ module _ (s : List ℕ) (n i : ℕ) (g : Gap) (e : g ≡ gap_of_words (take gap_
   pub read_fits : every? instants_fit (gaps_of s n) ≡ true → instants_fit g ≡ true
   read_fits a = ap instants_fit read_is ∙ every-at instants_fit (gaps_of s n) no_gap i a (rw length-gaps_of h)
 
--- x, which was read as g, is due or not as the test of g says
-pub due_as : (t : NackTimings) (now : ℕ) (g x : Gap) (r b : Bool) → r ≡ due t now g → g ≡ x → r ≡ b → due t now x ≡ b
-due_as t now g x r b e f z = ap (due t now) (sym f) ∙ sym e ∙ z
+-- what is read, by place or by number
+pub ruleset placed = (gap-words, firsts-ascend, contains_at, contains_past, count-is, found_in)
+
+-- what a move leaves
+pub ruleset moved = (gaps-drop, tidied)

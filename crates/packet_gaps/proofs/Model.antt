@@ -14,7 +14,8 @@ use Rattle.words.specs.Order.{ascends, rank}
 use Rattle.words.proofs.Ordered.{and_left, and_right, rank-le}
 use Rattle.words.proofs.Forms.{records_of}
 use Rattle.durations.specs.Seconds.{largest}
-use Rattle.rtx_state.specs.declared.OptRtt.{OptRtt}
+use Rattle.rtx_state.specs.declared.RtxRtt.{RtxRtt}
+use Rattle.std.specs.Prelude.{Option}
 use Rattle.rtx_state.specs.RoundTrip.{opt_rtt_in_range}
 use Rattle.config.specs.declared.Settings.{Settings}
 use Rattle.config.specs.Timings.{nack_timings}
@@ -51,7 +52,7 @@ sound-instants b gs c e = every_weaker (gap_sound b) instants_fit one gs e
 -- ---- NACKs
 
 -- valid settings and an estimate in range give small timings
-pub small-timings : (set : Settings) (rtt : OptRtt) → set.initial_nack_delay ≤ longest → set.default_nack_resend_delay ≤ longest → T (opt_rtt_in_range rtt) → Small (nack_timings set rtt)
+pub small-timings : (set : Settings) (rtt : Option RtxRtt) → set.initial_nack_delay ≤ longest → set.default_nack_resend_delay ≤ longest → T (opt_rtt_in_range rtt) → Small (nack_timings set rtt)
 unfolding nack_timings
 small-timings set rtt i d r = record { initial = omega arith; resend = resend-lt set rtt d r }
 

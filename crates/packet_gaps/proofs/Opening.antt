@@ -38,58 +38,40 @@ unfolding opened
 opened_next s₀ n first at k = rw (append_assoc, following_next first k, map-append)
 
 pub record Opening (s₀ s : List ℕ) (n first x at number i : ℕ) : Type 0 where
-  pub from : n ≤ i
-  pub upto : number ≤ x
-  pub step : n + number ≡ i + first
+  pub count : i ≡ n + (number - first)
   pub room : gap_words * (n + (x - first)) ≤ length s₀
   pub same : length s ≡ length s₀
-  pub held : s ≡ laid gap_words_of (length s₀) (opened s₀ n first at (i - n))
+  pub held : s ≡ laid gap_words_of (length s₀) (opened s₀ n first at (number - first))
 
-pub opening-none : (s₀ : List ℕ) (n first x at : ℕ) → GapsIn s₀ n → first ≤ x → gap_words * (n + (x - first)) ≤ length s₀ → Opening s₀ s₀ n first x at first n
+pub opening-none : {s₀ : List ℕ} {n first x at : ℕ} → GapsIn s₀ n → gap_words * (n + (x - first)) ≤ length s₀ → Opening s₀ s₀ n first x at first n
 unfolding opened following
-opening-none s₀ n first x at k l r =
-    let z : n - n ≡ 0 = omega arith in
-    record {
-      from = omega arith;
-      upto = omega arith;
-      step = omega arith;
-      room = r;
-      same = refl;
-      held = rw (z, append-nil) k.held;
-    }
+opening-none {first = first} k r =
+    let z : first - first ≡ 0 = omega arith in
+    record { count = omega arith; room = r; same = refl; held = rw (z, append-nil) k.held }
 
-pub opening_more : (s₀ s t : List ℕ) (n first x at number i : ℕ) → Opening s₀ s n first x at number i → number < x
+pub opening_more : {s₀ s t : List ℕ} {n first x at number i : ℕ} → Opening s₀ s n first x at number i → first ≤ number → number < x
     → t ≡ written (gap_words * i) (gap_words_of (fresh at number)) s → Opening s₀ t n first x at (number + 1) (i + 1)
-opening_more s₀ s t n first x at number i o l e =
-    let k = i - n in
-    let from : n ≤ i = o.from in
-    let step : n + number ≡ i + first = o.step in
+opening_more {s₀} {s} {t} {n} {first} {x} {at} {number} {i} o f l e =
+    let k = number - first in
+    let count : i ≡ n + k = o.count in
     let room : gap_words * (n + (x - first)) ≤ length s₀ = o.room in
     let v : first + k ≡ number = omega arith in
-    let z : suc k ≡ i + 1 - n = omega arith in
+    let z : suc k ≡ number + 1 - first = omega arith in
     let xs = opened s₀ n first at k in
     let lx : length xs ≡ i = length-opened s₀ n first at k ∙ omega arith in
-    let ly : length (opened s₀ n first at (i + 1 - n)) ≡ i + 1 = length-opened s₀ n first at (i + 1 - n) ∙ omega arith in
-    let held : t ≡ laid gap_words_of (length s₀) (opened s₀ n first at (i + 1 - n)) =
+    let ly : length (opened s₀ n first at (number + 1 - first)) ≡ i + 1 = length-opened s₀ n first at (number + 1 - first) ∙ omega arith in
+    let held : t ≡ laid gap_words_of (length s₀) (opened s₀ n first at (number + 1 - first)) =
     e
     ∙ holds_pushed (gaps-held o.held lx (omega arith)) (fresh at number)
     ∙ ap (λ (m : ℕ). laid gap_words_of (length s₀) (xs ++ (fresh at m ∷ []))) (sym v)
     ∙ ap (laid gap_words_of (length s₀)) (opened_next s₀ n first at k ∙ ap (opened s₀ n first at) z) in
-    record {
-      from = omega arith;
-      upto = omega arith;
-      step = omega arith;
-      room = room;
-      same = holds-length (gaps-held held ly (omega arith));
-      held = held;
-    }
+    record { count = omega arith; room = room; same = holds-length (gaps-held held ly (omega arith)); held = held }
 
-pub opening_all : (s₀ s : List ℕ) (n h x at number i : ℕ) → Opening s₀ s n (h + 1) x at number i → x ≤ number
+pub opening_all : (h : ℕ) {s₀ s : List ℕ} {n x at number i : ℕ} → Opening s₀ s n (h + 1) x at number i → number ≡ x
     → s ≡ laid gap_words_of (length s₀) (gaps_of s₀ n ++ map (fresh at) (between h x))
 unfolding opened between
-opening_all s₀ s n h x at number i o l =
-    let step : n + number ≡ i + (h + 1) = o.step in
-    let upto : number ≤ x = o.upto in
+opening_all h o e =
     let f : h + 1 ≡ suc h = omega arith in
-    let z : i - n ≡ x - suc h = omega arith in
-    rw (sym z) (rw f at o.held)
+    rw f at (rw e at o.held)
+
+pub ruleset opening = (opening-none, opening_more, opening_all)

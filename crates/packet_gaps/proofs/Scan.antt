@@ -7,8 +7,7 @@ use native.Mathlib.Omega.{arith}
 use lib.ListN.{length, take, drop, get_or, drop_of_length-le}
 use Rattle.words.proofs.Blocked.{first-at}
 use Rattle.rtp.specs.Opt.{opt_min}
-use Rattle.rtp.specs.declared.opt.Opt.{Opt}
-use Rattle.rtp.specs.declared.opt.Opt.TheVariants.{None, Some}
+use Rattle.std.specs.Prelude.{Option, None, Some}
 use Rattle.config.specs.declared.NackTimings.{NackTimings}
 use Rattle.model.specs.Lists.{keep, leading, some?}
 use Rattle.model.specs.Records.{Gap, gap_numbers}
@@ -17,7 +16,7 @@ use Rattle.model.specs.Poll.{nack_timeout_of}
 use Rattle.model.specs.Valid.{Bounds, gap_sound}
 use Rattle.model.specs.Storage.{gap_words, gap_of_words, gaps_of}
 use Rattle.model.proofs.Laid.{length-gaps_of}
-use Rattle.packet_gaps.proofs.Laws.{no_gap, gap-numbers, number_at, read_is}
+use Rattle.packet_gaps.proofs.Laws.{no_gap, gap-numbers, number_at, read_is, read_fits}
 use Rattle.packet_gaps.proofs.Turns.{drop_next, some_found, some-other, some_skip, keep-end, leading-none, leading_more, leading_end, Turn, left, left_end}
 
 abbrev pub number_of : Gap → ℕ
@@ -44,9 +43,9 @@ module _ (s : List ℕ) (n i : ℕ) (g : Gap) (e : g ≡ gap_of_words (take gap_
   here = read_is s n i g e h
 
   -- check 16 at place i
-  pub scanned : (b : Bounds) (passes : Bool) → passes ≡ gap_sound b g → Turn number_of (gap_sound b) no_gap (gaps_of s n) n i g.number passes
+  pub scanned : (b : Bounds) {passes : Bool} → passes ≡ gap_sound b g → Turn number_of (gap_sound b) no_gap (gaps_of s n) n i g.number passes
   unfolding gs gap_of_words
-  scanned b passes p = record { count = length-gaps_of s n; inside = h; here = ap number_of here ∙ sym (number_at gs i); tested = p ∙ ap (gap_sound b) here }
+  scanned b p = record { count = length-gaps_of s n; inside = h; here = ap number_of here ∙ sym (number_at gs i); tested = p ∙ ap (gap_sound b) here }
 
   module _ (t : NackTimings) (now : ℕ) where
     pub full_found : due t now g ≡ true → full g ≡ true → full_from t now s n i ≡ true
@@ -65,10 +64,10 @@ module _ (s : List ℕ) (n i : ℕ) (g : Gap) (e : g ≡ gap_of_words (take gap_
     unfolding gs nack_timeout_of
     timeout_more = ap (nack_timeout_of t now) (drop_next no_gap gs i inside) ∙ ap (λ (x : Gap). opt_min (Some (due_at t x - now)) (nack_timeout_of t now (drop (i + 1) gs))) (sym here)
 
-    pub timeout-step : (r timeout : Opt) (left at m : ℕ)
+    pub timeout-step : {r timeout : Option ℕ} {left at : ℕ} (m : ℕ)
         → r ≡ opt_min (Some left) timeout → left ≡ at - now → at ≡ due_at t g → timeout ≡ nack_timeout_of t now (drop m (gaps_of s n)) → i + 1 ≡ m
         → r ≡ nack_timeout_of t now (drop i (gaps_of s n))
-    timeout-step r timeout left at m er el ea et em = cc (timeout_more)
+    timeout-step m er el ea et em = cc (timeout_more)
 
   module _ (max : ℕ) where
     pub tried-none : tried max g ≡ false → length (leading (tried max) (drop i (gaps_of s n))) ≡ 0
@@ -97,3 +96,13 @@ module _ (s : List ℕ) (n i : ℕ) (h : n ≤ i) where
   pub timeout-end : (t : NackTimings) (now : ℕ) → None ≡ nack_timeout_of t now (drop i (gaps_of s n))
   unfolding nack_timeout_of
   timeout-end t now = let e : drop i (gaps_of s n) ≡ [] = drop_of_length-le (gaps_of s n) {i = i} (omega (arith, length-gaps_of s n)) in rw e
+
+-- ---- what the loops have to know
+
+pub ruleset filling = (read_fits, full_found, full-other, full_skip, full-end)
+
+pub ruleset timing = (read_fits, timeout-end)
+
+pub ruleset trying = (tried-none, tried_more, tried-end)
+
+pub ruleset sounding = (scan_end)

@@ -21,15 +21,15 @@ use Rattle.nack_pairs.specs.Wire.{entry_bytes, bytes_of, entries}
 use Rattle.nack_pairs.specs.Naming.{Follows, opened, named_next}
 use Rattle.nack_pairs.proofs.Writing.{Named, named_none, named_follows, next_bytes, named_more, named-bytes}
 use Rattle.config.specs.declared.NackTimings.{NackTimings}
-use Rattle.model.specs.Lists.{keep, some?}
+use Rattle.model.specs.Lists.{keep, some?, every?}
 use Rattle.model.specs.Records.{Gap, gap_numbers}
-use Rattle.model.specs.Rules.{due, nacked, nacked_if_due, nack_due, truncated}
+use Rattle.model.specs.Rules.{due, full, nacked, nacked_if_due, nack_due, truncated}
 use Rattle.model.specs.Storage.{gap_words, gap_words_of, gap_of_words, gaps_of}
 use Rattle.model.proofs.Lists.{length-keep, rising_of_ascends, ascends_of_rising, rising_keep}
 use Rattle.model.proofs.Laid.{gap_wide, gaps-held, gap_coded, length-gaps_of}
-use Rattle.packet_gaps.specs.Gaps.{GapsIn}
+use Rattle.packet_gaps.specs.Gaps.{GapsIn, instants_fit}
 use Rattle.packet_gaps.proofs.Laws.{no_gap, gap_at}
-use Rattle.packet_gaps.proofs.Turns.{or_left, or_right, drop_next, take_next}
+use Rattle.packet_gaps.proofs.Turns.{or_left, or_right, every-at, drop_next, take_next}
 
 -- ---- those that pass a test, one more at a time
 
@@ -103,7 +103,7 @@ due_in t now s n i = keep (due t now) (take i (gaps_of s n))
 few-due : (t : NackTimings) (now : ℕ) (s : List ℕ) (n i : ℕ) → i ≤ n → length (due_in t now s n i) ≤ i
 few-due t now s n i h = omega (arith, length-keep (due t now) (take i (gaps_of s n)), length-take-le i (gaps_of s n) (omega (arith, length-gaps_of s n)))
 
-module _ (t : NackTimings) (now : ℕ) (s₀ s : List ℕ) (n i : ℕ) (c : Nacked t now s₀ s n i) (h : i < n) where
+module _ {t : NackTimings} {now : ℕ} {s₀ s : List ℕ} {n i : ℕ} (c : Nacked t now s₀ s n i) (h : i < n) where
   xs : List Gap
   xs = gaps_of s₀ n
 
@@ -131,15 +131,6 @@ module _ (t : NackTimings) (now : ℕ) (s₀ s : List ℕ) (n i : ℕ) (c : Nack
   unfolding xs
   here = gaps-held c.held (length-polled t now s₀ n i) c.kept.room
 
-  pub nacked_here : (g : Gap) → g ≡ gap_of_words (take gap_words (drop (gap_words * i) s)) → g ≡ get_or (gaps_of s₀ n) i no_gap
-  unfolding xs x
-  nacked_here g e =
-      let w : take gap_words (drop (gap_words * i) s) ≡ gap_words_of (get_or (polled t now xs i) i no_gap) = holds_at here i no_gap h in
-      let v : get_or (polled t now xs i) i no_gap ≡ x = ap (λ (l : List Gap). get_or l i no_gap) around ∙ get_or_at before x (drop (i + 1) xs) no_gap i length_before in
-      let w₀ : List ℕ = take gap_words (drop (gap_words * i) s₀) in
-      let y : x ≡ gap_of_words w₀ = gap_at s₀ n i h in
-      e ∙ ap gap_of_words (w ∙ ap gap_words_of (v ∙ y)) ∙ gap_coded.back (gap_of_words w₀) ∙ sym y
-
   due_one : due t now x ≡ true → nacked_if_due t now x ≡ nacked now x
   unfolding nacked_if_due
   due_one d = rw d
@@ -152,22 +143,46 @@ module _ (t : NackTimings) (now : ℕ) (s₀ s : List ℕ) (n i : ℕ) (c : Nack
   unfolding xs x before polled
   next y e = sym (rw (take_next no_gap xs i inside, map-append, append_assoc, e))
 
-  pub nacked-due : (g y : Gap) (u : List ℕ) → g ≡ get_or (gaps_of s₀ n) i no_gap → due t now (get_or (gaps_of s₀ n) i no_gap) ≡ true → y ≡ nacked now g → u ≡ written (gap_words * i) (gap_words_of y) s
-      → Nacked t now s₀ u n (i + 1)
-  unfolding xs x
-  nacked-due g y u eg d ey eu =
-      let f : nacked_if_due t now x ≡ y = due_one d ∙ ap (nacked now) (sym eg) ∙ sym ey in
-      let held : u ≡ laid gap_words_of (length s₀) (polled t now xs (i + 1)) =
-      eu
-      ∙ holds-set here i y (gap_wide y) h
-      ∙ ap (laid gap_words_of (length s₀)) (ap (λ (l : List Gap). set l i y) around ∙ set_at before x (drop (i + 1) xs) y i length_before ∙ next y f) in
-      record { kept = c.kept; upto = omega arith; same = holds-length (gaps-held held (length-polled t now s₀ n (i + 1)) c.kept.room); held = held }
+  -- the turn reads g there
+  module _ {g : Gap} (e : g ≡ gap_of_words (take gap_words (drop (gap_words * i) s))) where
+    nacked_here : g ≡ get_or (gaps_of s₀ n) i no_gap
+    unfolding xs x
+    nacked_here =
+        let w : take gap_words (drop (gap_words * i) s) ≡ gap_words_of (get_or (polled t now xs i) i no_gap) = holds_at here i no_gap h in
+        let v : get_or (polled t now xs i) i no_gap ≡ x = ap (λ (l : List Gap). get_or l i no_gap) around ∙ get_or_at before x (drop (i + 1) xs) no_gap i length_before in
+        let w₀ : List ℕ = take gap_words (drop (gap_words * i) s₀) in
+        let y : x ≡ gap_of_words w₀ = gap_at s₀ n i h in
+        e ∙ ap gap_of_words (w ∙ ap gap_words_of (v ∙ y)) ∙ gap_coded.back (gap_of_words w₀) ∙ sym y
 
-  pub nacked_skip : due t now (get_or (gaps_of s₀ n) i no_gap) ≡ false → Nacked t now s₀ s n (i + 1)
-  unfolding xs x
-  nacked_skip d = record { kept = c.kept; upto = omega arith; same = c.same; held = c.held ∙ ap (laid gap_words_of (length s₀)) (around ∙ next x (due-none d)) }
+    pub fits_here : every? instants_fit (gaps_of s₀ n) ≡ true → instants_fit g ≡ true
+    unfolding xs x
+    fits_here a = ap instants_fit nacked_here ∙ every-at instants_fit xs no_gap i a inside
 
-module _ (t : NackTimings) (now : ℕ) (s₀ s : List ℕ) (n i : ℕ) (c : Nacked t now s₀ s n i) (h : n ≤ i) where
+    -- and finds it due, or not
+    module _ {r : Bool} (er : r ≡ due t now g) where
+      pub due_here : {b : Bool} → r ≡ b → due t now (get_or (gaps_of s₀ n) i no_gap) ≡ b
+      unfolding xs x
+      due_here z = ap (due t now) (sym nacked_here) ∙ sym er ∙ z
+
+      pub room_here : some? full (keep (due t now) (gaps_of s₀ n)) ≡ false → r ≡ true → full g ≡ false
+      unfolding xs x
+      room_here a z = ap full nacked_here ∙ none-at (due t now) full xs no_gap i a inside (due_here z)
+
+      nacked-due : {y : Gap} {u : List ℕ} → r ≡ true → y ≡ nacked now g → u ≡ written (gap_words * i) (gap_words_of y) s → Nacked t now s₀ u n (i + 1)
+      unfolding xs x
+      nacked-due {y} {u} z ey eu =
+          let f : nacked_if_due t now x ≡ y = due_one (due_here z) ∙ ap (nacked now) (sym nacked_here) ∙ sym ey in
+          let held : u ≡ laid gap_words_of (length s₀) (polled t now xs (i + 1)) =
+          eu
+          ∙ holds-set here i y (gap_wide y) h
+          ∙ ap (laid gap_words_of (length s₀)) (ap (λ (l : List Gap). set l i y) around ∙ set_at before x (drop (i + 1) xs) y i length_before ∙ next y f) in
+          record { kept = c.kept; upto = omega arith; same = holds-length (gaps-held held (length-polled t now s₀ n (i + 1)) c.kept.room); held = held }
+
+      nacked_skip : r ≡ false → Nacked t now s₀ s n (i + 1)
+      unfolding xs x
+      nacked_skip z = record { kept = c.kept; upto = omega arith; same = c.same; held = c.held ∙ ap (laid gap_words_of (length s₀)) (around ∙ next x (due-none (due_here z))) }
+
+module _ {t : NackTimings} {now : ℕ} {s₀ s : List ℕ} {n i : ℕ} (c : Nacked t now s₀ s n i) (h : n ≤ i) where
   all : take i (gaps_of s₀ n) ≡ gaps_of s₀ n
   all = take_all i (gaps_of s₀ n) (omega (arith, length-gaps_of s₀ n))
 
@@ -202,13 +217,16 @@ polling_none t now s₀ out₀ n k r =
       numbers = writing_none (map truncated q) out₀ (length q) (omega (arith, length-map q truncated)) (omega (arith, length-keep (due t now) gs, length-gaps_of s₀ n));
     }
 
-module _ (t : NackTimings) (now : ℕ) (s₀ out₀ s out : List ℕ) (n i count : ℕ) (c : Polling t now s₀ out₀ s out n i count) (h : i < n) where
+module _ {t : NackTimings} {now : ℕ} {s₀ out₀ s out : List ℕ} {n i count : ℕ} (c : Polling t now s₀ out₀ s out n i count) (h : i < n)
+    {g : Gap} (e : g ≡ gap_of_words (take gap_words (drop (gap_words * i) s))) {r : Bool} (er : r ≡ due t now g) where
   at : i < length (gaps_of s₀ n)
-  at = inside t now s₀ s n i c.gaps h
+  at = inside c.gaps h
 
-  pub polling_due : (g y : Gap) (u o : List ℕ) (v : ℕ) → g ≡ get_or (gaps_of s₀ n) i no_gap → due t now (get_or (gaps_of s₀ n) i no_gap) ≡ true → y ≡ nacked now g → u ≡ written (gap_words * i) (gap_words_of y) s → v ≡ truncated g
+  pub polling_due : {y : Gap} {u o : List ℕ} {v : ℕ} → r ≡ true → y ≡ nacked now g → u ≡ written (gap_words * i) (gap_words_of y) s → v ≡ truncated g
       → o ≡ set out count v → Polling t now s₀ out₀ u o n (i + 1) (count + 1)
-  polling_due g y u o v eg d ey eu ev eo =
+  unfolding x
+  polling_due {y} {u} {o} {v} z ey eu ev eo =
+      let d = due_here c.gaps h e er z in
       let xs = gaps_of s₀ n in
       let x = get_or xs i no_gap in
       let p = due t now in
@@ -220,30 +238,30 @@ module _ (t : NackTimings) (now : ℕ) (s₀ out₀ s out : List ℕ) (n i count
       let lq : length q ≡ length k + suc (length (keep p (drop (i + 1) xs))) = ap length ka ∙ length-append k (x ∷ keep p (drop (i + 1) xs)) in
       let lk : length (map truncated k) ≡ count = length-map k truncated ∙ sym c.counted in
       let vx : v ≡ get_or (map truncated q) count 0 =
-      ev ∙ ap truncated eg
+      ev ∙ ap truncated (nacked_here c.gaps h e)
       ∙ sym (ap (λ (l : List Gap). get_or (map truncated l) count 0) ka ∙ ap (λ (l : List ℕ). get_or l count 0) (map-append truncated k (x ∷ keep p (drop (i + 1) xs))) ∙ get_or_at (map truncated k) (truncated x) (map truncated (keep p (drop (i + 1) xs))) 0 count lk) in
       let w : Writing (map truncated q) out₀ (set out count v) (length q) (count + 1) = writing_more (map truncated q) out₀ out (length q) count v c.numbers (omega (arith, c.counted)) vx in
       record {
-        gaps = nacked-due t now s₀ s n i c.gaps h g y u eg d ey eu;
+        gaps = nacked-due c.gaps h e er z ey eu;
         fewer = omega (arith, c.fewer);
         room = c.room;
         counted = omega (arith, ln, c.counted);
         numbers = rw eo w;
       }
 
-  pub polling_skip : due t now (get_or (gaps_of s₀ n) i no_gap) ≡ false → Polling t now s₀ out₀ s out n (i + 1) count
-  polling_skip d =
+  pub polling_skip : r ≡ false → Polling t now s₀ out₀ s out n (i + 1) count
+  polling_skip z =
       record {
-        gaps = nacked_skip t now s₀ s n i c.gaps h d;
+        gaps = nacked_skip c.gaps h e er z;
         fewer = omega (arith, c.fewer);
         room = c.room;
-        counted = c.counted ∙ ap length (sym (keep_skip (due t now) no_gap (gaps_of s₀ n) i at d));
+        counted = c.counted ∙ ap length (sym (keep_skip (due t now) no_gap (gaps_of s₀ n) i at (due_here c.gaps h e er z)));
         numbers = c.numbers;
       }
 
-module _ (t : NackTimings) (now : ℕ) (s₀ out₀ s out : List ℕ) (n i count : ℕ) (c : Polling t now s₀ out₀ s out n i count) (h : n ≤ i) where
+module _ {t : NackTimings} {now : ℕ} {s₀ out₀ s out : List ℕ} {n i count : ℕ} (c : Polling t now s₀ out₀ s out n i count) (h : n ≤ i) where
   pub polling_count : count ≡ length (keep (due t now) (gaps_of s₀ n))
-  polling_count = c.counted ∙ ap length (all_due t now s₀ s n i c.gaps h)
+  polling_count = c.counted ∙ ap length (all_due c.gaps h)
 
   pub polling_out : out ≡ over (map truncated (keep (due t now) (gaps_of s₀ n))) out₀
   polling_out =
@@ -277,7 +295,8 @@ due-ascend p l i a =
     let e : gap_numbers (keep p l) ≡ gap_numbers (keep p (take i l)) ++ gap_numbers (keep p (drop i l)) = ap gap_numbers k ∙ map-append gap_number (keep p (take i l)) (keep p (drop i l)) in
     ascends_front (gap_numbers (keep p (take i l))) (gap_numbers (keep p (drop i l))) (ap ascends (sym e) ∙ is_true _ (ascends_of_rising gap_number (keep p l) r))
 
-module _ (t : NackTimings) (now : ℕ) (s₀ out₀ s out : List ℕ) (n i : ℕ) (named : Naming) (c : Wiring t now s₀ out₀ s out n i named) (h : i < n) where
+module _ {t : NackTimings} {now : ℕ} {s₀ out₀ s out : List ℕ} {n i : ℕ} {named : Naming} (c : Wiring t now s₀ out₀ s out n i named) (h : i < n)
+    {g : Gap} (e : g ≡ gap_of_words (take gap_words (drop (gap_words * i) s))) {r : Bool} (er : r ≡ due t now g) where
   -- the numbers named so far
   abbrev sofar : List ℕ
   sofar = gap_numbers (due_in t now s₀ n i)
@@ -286,37 +305,46 @@ module _ (t : NackTimings) (now : ℕ) (s₀ out₀ s out : List ℕ) (n i : ℕ
   few = omega (arith, length-map (due_in t now s₀ n i) gap_number, few-due t now s₀ n i (omega arith))
 
   -- the gap at place i is due, and v is its number
-  module _ (g : Gap) (v : ℕ) (eg : g ≡ get_or (gaps_of s₀ n) i no_gap) (ev : v ≡ g.number) (d : due t now (get_or (gaps_of s₀ n) i no_gap) ≡ true) where
+  module _ {v : ℕ} (z : r ≡ true) (ev : v ≡ g.number) where
     one_more : gap_numbers (due_in t now s₀ n (i + 1)) ≡ sofar ++ (v ∷ [])
+    unfolding x
     one_more =
         let x = get_or (gaps_of s₀ n) i no_gap in
-        ap gap_numbers (keep_next (due t now) no_gap (gaps_of s₀ n) i (inside t now s₀ s n i c.gaps h) d)
+        ap gap_numbers (keep_next (due t now) no_gap (gaps_of s₀ n) i (inside c.gaps h) (due_here c.gaps h e er z))
         ∙ map-append gap_number (due_in t now s₀ n i) (x ∷ [])
-        ∙ ap (λ (k : ℕ). sofar ++ (k ∷ [])) (sym (ev ∙ ap gap_number eg))
+        ∙ ap (λ (k : ℕ). sofar ++ (k ∷ [])) (sym (ev ∙ ap gap_number (nacked_here c.gaps h e)))
 
-    pub wiring_follows : ascends (gap_numbers (gaps_of s₀ n)) ≡ true → entry_bytes * n < 2 ^ 64 → Follows named v × ((named_next named v).bytes ≤ length out)
-    wiring_follows a r = (
-      named_follows sofar named out₀ out v c.entries (ap ascends (sym one_more) ∙ due-ascend (due t now) (gaps_of s₀ n) (i + 1) a) (omega (arith, few)),
-      omega (arith, few, next_bytes sofar named out₀ out v c.entries, c.entries.same, c.room),
-    )
+    pub wiring_follows : ascends (gap_numbers (gaps_of s₀ n)) ≡ true → entry_bytes * n < 2 ^ 64 → Follows named v
+    wiring_follows a l = named_follows sofar named out₀ out v c.entries (ap ascends (sym one_more) ∙ due-ascend (due t now) (gaps_of s₀ n) (i + 1) a) (omega (arith, few))
 
-    pub wiring_due : (y : Gap) (u o : List ℕ) (m : Naming) → y ≡ nacked now g → u ≡ written (gap_words * i) (gap_words_of y) s
+    pub wiring_room : (named_next named v).bytes ≤ length out
+    wiring_room = omega (arith, few, next_bytes sofar named out₀ out v c.entries, c.entries.same, c.room)
+
+    pub wiring_due : {y : Gap} {u o : List ℕ} {m : Naming} → y ≡ nacked now g → u ≡ written (gap_words * i) (gap_words_of y) s
         → m ≡ named_next named v → o ≡ written (m.bytes - entry_bytes) (bytes_of (opened m)) out → Wiring t now s₀ out₀ u o n (i + 1) m
-    wiring_due y u o m ey eu em eo =
+    wiring_due {y} {u} {o} {m} ey eu em eo =
         record {
-          gaps = nacked-due t now s₀ s n i c.gaps h g y u eg d ey eu;
+          gaps = nacked-due c.gaps h e er z ey eu;
           room = c.room;
           entries = rw one_more (named_more sofar named m out₀ out o v c.entries (omega (arith, few, c.room)) em eo);
         }
 
-  pub wiring_skip : due t now (get_or (gaps_of s₀ n) i no_gap) ≡ false → Wiring t now s₀ out₀ s out n (i + 1) named
-  wiring_skip d =
-      let e = keep_skip (due t now) no_gap (gaps_of s₀ n) i (inside t now s₀ s n i c.gaps h) d in
-      record { gaps = nacked_skip t now s₀ s n i c.gaps h d; room = c.room; entries = rw e c.entries }
+  pub wiring_skip : r ≡ false → Wiring t now s₀ out₀ s out n (i + 1) named
+  wiring_skip z =
+      let k = keep_skip (due t now) no_gap (gaps_of s₀ n) i (inside c.gaps h) (due_here c.gaps h e er z) in
+      record { gaps = nacked_skip c.gaps h e er z; room = c.room; entries = rw k c.entries }
 
-module _ (t : NackTimings) (now : ℕ) (s₀ out₀ s out : List ℕ) (n i : ℕ) (named : Naming) (c : Wiring t now s₀ out₀ s out n i named) (h : n ≤ i) where
-  pub wiring_all : Named (gap_numbers (keep (due t now) (gaps_of s₀ n))) named out₀ out
-  wiring_all = subst (λ (l : List Gap). Named (gap_numbers l) named out₀ out) (all_due t now s₀ s n i c.gaps h) c.entries
+module _ {t : NackTimings} {now : ℕ} {s₀ out₀ s out : List ℕ} {n i : ℕ} {named : Naming} (c : Wiring t now s₀ out₀ s out n i named) (h : n ≤ i) where
+  wiring_all : Named (gap_numbers (keep (due t now) (gaps_of s₀ n))) named out₀ out
+  wiring_all = subst (λ (l : List Gap). Named (gap_numbers l) named out₀ out) (all_due c.gaps h) c.entries
 
   pub wiring_bytes : named.bytes ≡ length (entries (gap_numbers (keep (due t now) (gaps_of s₀ n))))
   wiring_bytes = named-bytes _ named out₀ out wiring_all
+
+  pub wiring_out : out ≡ over (entries (gap_numbers (keep (due t now) (gaps_of s₀ n)))) out₀
+  wiring_out = wiring_all.written
+
+-- what the loops ask of the gap of a turn, and leave
+pub ruleset polling = (fits_here, polling_count, polling_out, nacked_all)
+
+pub ruleset wiring = (fits_here, room_here, wiring_room, wiring_bytes, wiring_out, nacked_all)

@@ -2,7 +2,6 @@
 ghost use Rattle.std.specs.Prelude.{◌≡◌, ◌*◌, ◌≤◌, length};
 ghost use Rattle.words.specs.Blocks.{laid};
 ghost use Rattle.rtp.specs.Opt.{number_of};
-ghost use Rattle.model.specs.Records.{highest_of};
 ghost use Rattle.model.specs.Push.{passed_of};
 ghost use Rattle.model.specs.Valid.{bounds_of, under, not_passed, gap_sound, gaps_sound};
 ghost use Rattle.model.specs.Storage.{gap_words, gap_words_of, gaps_of};
@@ -10,111 +9,90 @@ ghost use Rattle.packet_gaps.specs.Gaps.{gap, bounds};
 
 use super::{GAP_WORDS, Gap};
 use config::RtpInboundQueueMode;
-use model::{LastReceived, Queue};
+use model::Queue;
 use rtp::ExtendedSequenceNumber;
-use rtp::opt::OptNumber;
 
 // What check 16 holds the numbers and instants of the lists against.
 #[derive(Clone, Copy)]
 pub struct Bounds {
     // In sorted mode the last returned: entries and gaps are above it.
-    pub passed: OptNumber,
+    pub passed: Option<ExtendedSequenceNumber>,
     // The highest number so far.
-    pub highest: OptNumber,
+    pub highest: Option<ExtendedSequenceNumber>,
     pub clock: u64,
 }
 
-fn highest_of(last: LastReceived) -> OptNumber
-    ensures { number_of result ≡ highest_of last }
-{
-    match last {
-        LastReceived::None => OptNumber::None,
-        LastReceived::Some(r) => {
-            let number = r.number;
-            OptNumber::Some(number)
-        }
-    }
-}
-
-fn passed_of(mode: RtpInboundQueueMode, returned: OptNumber) -> OptNumber
+#[tactic(auto, unfolding(model::specs::Push::passed_of, rtp::specs::Opt::number_of))]
+fn passed_of(
+    mode: RtpInboundQueueMode,
+    returned: Option<ExtendedSequenceNumber>,
+) -> Option<ExtendedSequenceNumber>
     ensures { number_of result ≡ passed_of mode (number_of returned) }
 {
     match mode {
-        RtpInboundQueueMode::Passthrough => OptNumber::None,
+        RtpInboundQueueMode::Passthrough => None,
         RtpInboundQueueMode::SortedQueue(_) => returned,
     }
 }
 
+// Stays: it takes three of the queue's fields, and converts nothing.
+#[tactic(auto, unfolding(model::specs::Valid::bounds_of, model::specs::Records::highest_of, rtp::specs::Opt::number_of))]
 pub fn bounds_of(q: Queue) -> Bounds
     ensures { bounds result ≡ bounds_of q }
 {
-    let config = q.config;
-    let settings = config.settings;
-    let mode = settings.mode;
-    let last = q.last;
-    let returned = q.returned;
-    let passed = passed_of(mode, returned);
-    let highest = highest_of(last);
     Bounds {
-        passed,
-        highest,
+        passed: passed_of(q.config.settings.mode, q.returned),
+        highest: q.last.map(|r| r.number),
         clock: q.clock,
     }
 }
 
 // Whether x is above `low`, where there is one.
-pub fn above(low: OptNumber, x: ExtendedSequenceNumber) -> bool
+#[tactic(auto, using(rtp::proofs::Order::less), unfolding(model::specs::Valid::not_passed, rtp::specs::Opt::number_of, rtp::specs::Opt::at_most))]
+pub fn above(low: Option<ExtendedSequenceNumber>, x: ExtendedSequenceNumber) -> bool
     ensures { result ≡ not_passed (number_of low) x.0 }
 {
-    match low {
-        OptNumber::None => true,
-        OptNumber::Some(m) => m.0 < x.0,
-    }
+    low.is_none_or(|m| m < x)
 }
 
-fn below_highest(highest: OptNumber, x: ExtendedSequenceNumber) -> bool
+#[tactic(auto, using(rtp::proofs::Order::less), unfolding(model::specs::Valid::under, rtp::specs::Opt::number_of))]
+fn below_highest(highest: Option<ExtendedSequenceNumber>, x: ExtendedSequenceNumber) -> bool
     ensures { result ≡ under (number_of highest) x.0 }
 {
-    match highest {
-        OptNumber::None => false,
-        OptNumber::Some(h) => x.0 < h.0,
-    }
+    highest.is_some_and(|h| x < h)
 }
 
+#[tactic(auto, unfolding(model::specs::Valid::gap_sound))]
 fn gap_sound(b: Bounds, g: Gap) -> bool
     ensures { result ≡ gap_sound (bounds b) (gap g) }
 {
-    let highest = b.highest;
-    let passed = b.passed;
-    below_highest(highest, g.number)
-        & (above(passed, g.number) & ((g.detected <= b.clock) & (g.nacked_at <= b.clock)))
+    below_highest(b.highest, g.number)
+        & (above(b.passed, g.number) & ((g.detected <= b.clock) & (g.nacked_at <= b.clock)))
 }
 
 // Whether the numbers of the n gaps ascend, and each gap keeps to the bounds.
+// Stays: the caller lends the words (the C interface), and the session has the count.
+#[tactic(auto, using(crate::proofs::Scan::sounding), unfolding(crate::proofs::Turns::left))]
 pub fn are_sound(s: &[u64], n: usize, b: Bounds) -> bool
     requires { gap_words * n ≤ length s.now }
     ensures { result ≡ gaps_sound (bounds b) (gaps_of s.now n) }
 {
-    let mut i = 0;
-    while i < n {
+    for i in 0..n {
         let g = super::read(s, i);
         if !gap_sound(b, g) {
             return false;
         }
         let next = i + 1;
-        if next < n {
-            if s[GAP_WORDS * next] <= g.number.0 {
-                return false;
-            }
-            i = next;
-        } else {
-            i = next;
+        if next < n && s[GAP_WORDS * next] <= g.number.0 {
+            return false;
         }
     }
     true
 }
 
 // Zeros after the n gaps.
+// Stays: the caller lends the words (the C interface), and the session has the count.
+#[tactic(auto, using(crate::proofs::Laws::moved))]
 pub fn tidy(s: &mut [u64], n: usize)
     requires { gap_words * n ≤ length s.old }
     ensures { s.new ≡ laid gap_words_of (length s.old) (gaps_of s.old n) }

@@ -1,5 +1,6 @@
 // 001: the gaps, numbers that have not come, each with its NACK state, in counted places of a lent slice. The session keeps their count
 // n. Where a function wants `GapsIn`, `check::tidy` made it so.
+// Stays: s and n are two parameters, since the caller lends the slice, and the session, which it lends apart, has the count.
 #![tactic(auto)]
 
 ghost use Rattle.std.specs.Prelude.{◌≡◌, true, ◌++◌, [], map, ◌+◌, ◌*◌, ◌-◌, ◌≤◌, ◌<◌, length, take, drop};
@@ -13,7 +14,6 @@ ghost use Rattle.model.specs.Storage.{gap_words, gap_words_of, gap_of_words, gap
 ghost use Rattle.packet_gaps.specs.Gaps.{GapsIn, gap};
 
 use rtp::ExtendedSequenceNumber;
-use rtp::opt::Opt;
 
 pub mod check;
 pub mod nacks;
@@ -31,23 +31,21 @@ pub struct Gap {
 }
 
 // The gap at place i.
+#[tactic(auto, using(crate::proofs::Laws::placed))]
 pub fn read(s: &[u64], i: usize) -> Gap
     requires { gap_words * i + gap_words ≤ length s.now }
     ensures { gap result ≡ gap_of_words (take gap_words (drop (gap_words * i) s.now)) }
 {
     let at = GAP_WORDS * i;
-    let number = s[at];
-    let detected = s[at + 1];
-    let nacks = s[at + 2];
-    let nacked_at = s[at + 3];
     Gap {
-        number: ExtendedSequenceNumber(number),
-        detected,
-        nacks,
-        nacked_at,
+        number: ExtendedSequenceNumber(s[at]),
+        detected: s[at + 1],
+        nacks: s[at + 2],
+        nacked_at: s[at + 3],
     }
 }
 
+#[tactic(auto, unfolding(model::specs::Storage::gap_words_of))]
 fn write(s: &mut [u64], i: usize, g: Gap)
     requires { gap_words * i + gap_words ≤ length s.old }
     ensures { s.new ≡ written (gap_words * i) (gap_words_of (gap g)) s.old }
@@ -57,29 +55,28 @@ fn write(s: &mut [u64], i: usize, g: Gap)
 }
 
 // Whether x is the number of a gap.
+// Stays: the caller lends the words (the C interface), and the session has the count.
+#[tactic(auto, using(crate::proofs::Laws::placed))]
 pub fn contains(s: &[u64], n: usize, x: ExtendedSequenceNumber) -> bool
     requires n_in_bounds { gap_words * n ≤ length s.now }
     requires n_value { ascends (gap_numbers (gaps_of s.now n)) ≡ true }
     ensures { result ≡ some? (is x.0) (gaps_of s.now n) }
 {
     let k = words::search::rank_of(s, GAP_WORDS, n, x.0);
-    if k < n {
-        return s[GAP_WORDS * k] == x.0;
-    }
-    false
+    k < n && s[GAP_WORDS * k] == x.0
 }
 
-fn nacked_once(g: Gap) -> Opt
+#[tactic(auto, unfolding(model::specs::Rules::nacked_once))]
+fn nacked_once(g: Gap) -> Option<u64>
     ensures { result ≡ nacked_once (gap g) }
 {
-    if g.nacks == 1 {
-        return Opt::Some(g.nacked_at);
-    }
-    Opt::None
+    (g.nacks == 1).then_some(g.nacked_at)
 }
 
 // Takes the gap of the number x out; its answer is the instant of the NACK, if there was just one.
-pub fn remove(s: &mut [u64], n: usize, x: ExtendedSequenceNumber) -> Opt
+// Stays: the caller lends the words (the C interface), and the session has the count.
+#[tactic(auto, using(crate::proofs::Laws::placed))]
+pub fn remove(s: &mut [u64], n: usize, x: ExtendedSequenceNumber) -> Option<u64>
     requires gaps_in { GapsIn s.old n }
     requires n_value { ascends (gap_numbers (gaps_of s.old n)) ≡ true }
     requires n_value_2 { some? (is x.0) (gaps_of s.old n) ≡ true }
@@ -93,6 +90,7 @@ pub fn remove(s: &mut [u64], n: usize, x: ExtendedSequenceNumber) -> Opt
 }
 
 // Takes all gaps out.
+#[tactic(auto, unfolding(words::specs::Blocks::laid, words::specs::Blocks::flat))]
 pub fn clear(s: &mut [u64])
     ensures { s.new ≡ laid gap_words_of (length s.old) [] }
 {
@@ -100,6 +98,8 @@ pub fn clear(s: &mut [u64])
 }
 
 // Opens a gap for each number between h and x, detected at `at`.
+// Stays: the caller lends the words (the C interface), and the session has the count.
+#[tactic(auto, using(crate::proofs::Opening::opening), unfolding(model::specs::Rules::fresh))]
 pub fn open_between(
     s: &mut [u64],
     n: usize,
@@ -112,9 +112,8 @@ pub fn open_between(
     requires h_in_bounds { gap_words * (n + (x.0 - (h.0 + 1))) ≤ length s.old }
     ensures { s.new ≡ laid gap_words_of (length s.old) (gaps_of s.old n ++ map (fresh at) (between h.0 x.0)) }
 {
-    let mut number = h.0 + 1;
     let mut i = n;
-    while number < x.0 {
+    for number in h.0 + 1..x.0 {
         let g = Gap {
             number: ExtendedSequenceNumber(number),
             detected: at,
@@ -122,12 +121,13 @@ pub fn open_between(
             nacked_at: 0,
         };
         write(s, i, g);
-        number += 1;
         i += 1;
     }
 }
 
 // How many gaps have a number below x. They stand at the front.
+// Stays: the caller lends the words (the C interface), and the session has the count.
+#[tactic(auto, using(crate::proofs::Laws::placed))]
 pub fn count_below(s: &[u64], n: usize, x: ExtendedSequenceNumber) -> usize
     requires n_in_bounds { gap_words * n ≤ length s.now }
     requires n_value { ascends (gap_numbers (gaps_of s.now n)) ≡ true }
@@ -137,6 +137,8 @@ pub fn count_below(s: &[u64], n: usize, x: ExtendedSequenceNumber) -> usize
 }
 
 // Takes the first k gaps out.
+// Stays: the caller lends the words (the C interface), and the session has the count.
+#[tactic(auto, using(crate::proofs::Laws::moved))]
 pub fn drain(s: &mut [u64], n: usize, k: usize)
     requires gaps_in { GapsIn s.old n }
     requires k_le_n { k ≤ n }

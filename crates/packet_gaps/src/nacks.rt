@@ -13,11 +13,11 @@ ghost use Rattle.packet_gaps.specs.Gaps.{GapsIn, gap, instants_fit, Small};
 
 use super::Gap;
 use config::NackTimings;
-use rtp::opt::Opt;
 
 // The largest NACK count, 2^32 - 1: the Rust's u32.
-const MAX_NACKS: u64 = 4294967295;
+const MAX_NACKS: u64 = u32::MAX as u64;
 
+#[tactic(auto, using(crate::proofs::Laws::instants), unfolding(model::specs::Rules::due_at))]
 fn due_at(g: Gap, t: NackTimings) -> u64
     requires g_value { instants_fit (gap g) ≡ true }
     requires small { Small t }
@@ -38,42 +38,39 @@ fn is_due(g: Gap, t: NackTimings, now: u64) -> bool
 }
 
 // g with one more NACK, sent at `now`.
+#[tactic(auto, unfolding(model::specs::Rules::nacked))]
 fn nack(g: Gap, now: u64) -> Gap
     requires { full (gap g) ≡ false }
     ensures { gap result ≡ nacked now (gap g) }
 {
-    let number = g.number;
     Gap {
-        number,
-        detected: g.detected,
         nacks: g.nacks + 1,
         nacked_at: now,
+        ..g
     }
 }
 
 // Whether a gap that is due was NACKed 2^32 - 1 times (01, refusal 14); the gaps before place `first` are left out.
+// Stays: the caller lends the words (the C interface), and the session has the count.
+#[tactic(auto, using(crate::proofs::Scan::filling))]
 pub fn any_full(s: &[u64], first: usize, n: usize, now: u64, t: NackTimings) -> bool
     requires n_in_bounds { gap_words * n ≤ length s.now }
     requires n_value { every? instants_fit (gaps_of s.now n) ≡ true }
     requires small { Small t }
     ensures { result ≡ some? full (keep (due t now) (drop first (gaps_of s.now n))) }
 {
-    let mut i = first;
-    while i < n {
+    for i in first..n {
         let g = super::read(s, i);
-        if is_due(g, t, now) {
-            if MAX_NACKS <= g.nacks {
-                return true;
-            }
-            i += 1;
-        } else {
-            i += 1;
+        if is_due(g, t, now) && MAX_NACKS <= g.nacks {
+            return true;
         }
     }
     false
 }
 
 // NACKs each gap that is due, writes their numbers to the front of `out`, and says how many they are.
+// Stays: the caller lends the words (the C interface), and the session has the count.
+#[tactic(auto, using(crate::proofs::Writing::polling))]
 pub fn poll_nacks(s: &mut [u64], n: usize, now: u64, t: NackTimings, out: &mut [u16]) -> usize
     requires gaps_in { GapsIn s.old n }
     requires n_in_bounds { n ≤ length out.old }
@@ -84,23 +81,21 @@ pub fn poll_nacks(s: &mut [u64], n: usize, now: u64, t: NackTimings, out: &mut [
     ensures s_after { s.new ≡ laid gap_words_of (length s.old) (nack_due t now (gaps_of s.old n)) }
     ensures out_after { out.new ≡ over (map truncated (keep (due t now) (gaps_of s.old n))) out.old }
 {
-    let mut i = 0;
     let mut count = 0;
-    while i < n {
+    for i in 0..n {
         let g = super::read(s, i);
         if is_due(g, t, now) {
             out[count] = g.number.truncated().0;
             count += 1;
             super::write(s, i, nack(g, now));
-            i += 1;
-        } else {
-            i += 1;
         }
     }
     count
 }
 
 // NACKs each gap that is due, writes the entries of a generic NACK that name them to the front of `out`, and says how many bytes they are.
+// Stays: the caller lends the words (the C interface), and the session has the count.
+#[tactic(auto, using(crate::proofs::Writing::wiring))]
 pub fn poll_wire(s: &mut [u64], n: usize, now: u64, t: NackTimings, out: &mut [u8]) -> usize
     requires gaps_in { GapsIn s.old n }
     requires n_in_bounds { entry_bytes * n ≤ length out.old }
@@ -113,49 +108,45 @@ pub fn poll_wire(s: &mut [u64], n: usize, now: u64, t: NackTimings, out: &mut [u
     ensures out_after { out.new ≡ over (entries (gap_numbers (keep (due t now) (gaps_of s.old n)))) out.old }
 {
     let mut named = nack_pairs::none_named();
-    let mut i = 0;
-    while i < n {
+    for i in 0..n {
         let g = super::read(s, i);
         if is_due(g, t, now) {
             named = nack_pairs::name(named, g.number.0, out);
             super::write(s, i, nack(g, now));
-            i += 1;
-        } else {
-            i += 1;
         }
     }
     named.bytes
 }
 
 // The least time until a gap is due.
-pub fn timeout_nacks(s: &[u64], n: usize, now: u64, t: NackTimings) -> Opt
+// Stays: the caller lends the words (the C interface), and the session has the count.
+#[tactic(auto, using(crate::proofs::Scan::timing))]
+pub fn timeout_nacks(s: &[u64], n: usize, now: u64, t: NackTimings) -> Option<u64>
     requires n_in_bounds { gap_words * n ≤ length s.now }
     requires n_value { every? instants_fit (gaps_of s.now n) ≡ true }
     requires small { Small t }
     ensures { result ≡ nack_timeout_of t now (gaps_of s.now n) }
 {
-    let mut timeout = Opt::None;
-    let mut i = n;
-    while 0 < i {
-        i -= 1;
-        let left = rtp::saturating_sub(due_at(super::read(s, i), t), now);
-        timeout = rtp::opt::opt_min(Opt::Some(left), timeout);
+    let mut timeout = None;
+    for i in (0..n).rev() {
+        let left = due_at(super::read(s, i), t).saturating_sub(now);
+        timeout = rtp::opt::opt_min(Some(left), timeout);
     }
     timeout
 }
 
 // How many gaps at the front were NACKed at least `max` times.
+// Stays: the caller lends the words (the C interface), and the session has the count.
+#[tactic(auto, using(crate::proofs::Scan::trying), unfolding(model::specs::Rules::tried))]
 pub fn count_lost(s: &[u64], n: usize, max: u32) -> usize
     requires { gap_words * n ≤ length s.now }
     ensures { result ≡ length (leading (tried max) (gaps_of s.now n)) }
 {
-    let mut i = 0;
-    while i < n {
+    for i in 0..n {
         let g = super::read(s, i);
-        if g.nacks < max as u64 {
+        if g.nacks < u64::from(max) {
             return i;
         }
-        i += 1;
     }
-    i
+    n
 }

@@ -1,10 +1,12 @@
 -- How many gaps `poll` makes lost. In either mode one of the two parts is empty, so that both together are no more than there are.
 use mathlib.Core.Path.{◌≡◌, refl, sym}
-use mathlib.Core.Bool.{Bool, true, false}
+use mathlib.Core.Bool.{Bool, true, false, cond}
 use mathlib.Core.List.{List, [], ◌∷◌}
 use Prim.Native.Nat.{ℕ, ◌+◌, ◌≤◌}
 use native.Mathlib.Omega.{arith}
 use lib.ListN.{length, take, length-append}
+use Rattle.std.specs.Bool.{then_some}
+use Rattle.std.specs.Prelude.{None, Some, unwrap_or}
 use Rattle.words.specs.Order.{ascends}
 use Rattle.config.specs.declared.Settings.{Settings}
 use Rattle.config.specs.declared.RtpInboundQueueMode.{RtpInboundQueueMode}
@@ -16,7 +18,6 @@ use Rattle.model.specs.Table.{lost_with}
 use Rattle.poll.specs.declared.Effect.{Effect}
 use Rattle.poll.specs.Steps.{effect_for}
 use Rattle.poll.proofs.Parted.{given-up-le, lost-le}
-use Rattle.poll.proofs.Fronts.{front_is}
 
 -- what is given up does not change what is below
 same-below : (set : Settings) (mode : RtpInboundQueueMode) (n : ℕ) (l : List Gap) → lost_below_of mode n (not_given_up_in mode set l) ≡ lost_below_of mode n l
@@ -36,23 +37,32 @@ module _ (now : ℕ) (s : State) where
 
   -- ---- what the code counts
 
-  pub due-none : (given delay : ℕ) (b : Bool) → given ≡ length (given_up_of set s.gaps) → delay ≡ delay_of s.queue → b ≡ hands_out now s.queue s.entries → b ≡ false
-      → record { given = given; delay = delay; goes_out = false; lost = 0 } ≡ effect_for now s
-  unfolding effect_for lost_under
-  due-none given delay b eg d e f = rw (eg, d, ← e, front_is now s s.entries b e, f)
+  pub due-none : (given delay : ℕ) → given ≡ length (given_up_of set s.gaps) → delay ≡ delay_of s.queue → hands_out now s.queue s.entries ≡ false
+      → record { given = given; delay = delay; lost = None } ≡ effect_for now s
+  unfolding effect_for
+  due-none given delay eg d e = rw (eg, d, e)
 
-  pub due-some : (given delay lost : ℕ) (b : Bool) (x : Entry) → given ≡ length (given_up_of set s.gaps) → delay ≡ delay_of s.queue → b ≡ hands_out now s.queue s.entries → b ≡ true → take 1 s.entries ≡ x ∷ [] → lost ≡ length (lost_below_of set.mode x.number s.gaps)
-      → record { given = given; delay = delay; goes_out = true; lost = lost } ≡ effect_for now s
-  unfolding effect_for lost_under drained
-  due-some given delay lost b x eg d e f t el = rw (eg, d, ← e, front_is now s s.entries b e, f, t, el, same-below set set.mode x.number s.gaps)
+  pub due-some : (given delay lost : ℕ) (x : Entry) → given ≡ length (given_up_of set s.gaps) → delay ≡ delay_of s.queue → hands_out now s.queue s.entries ≡ true → take 1 s.entries ≡ x ∷ []
+      → lost ≡ length (lost_below_of set.mode x.number s.gaps) → record { given = given; delay = delay; lost = Some lost } ≡ effect_for now s
+  unfolding effect_for going_out lost_under drained
+  due-some given delay lost x eg d e t el = rw (eg, d, e, t, el, same-below set set.mode x.number s.gaps)
 
   -- ---- 14
 
   module _ (d : Effect) (ed : d ≡ effect_for now s) where
-    pub due-counts : d.given + d.lost ≡ length (lost_with now s (going_out now s s.entries))
-    unfolding effect_for lost_with
-    due-counts = rw ed (sym (length-append (given_up_of set s.gaps) _))
+    -- nothing is lost below an entry that does not go out
+    counted : unwrap_or (effect_for now s).lost 0 ≡ length (lost_under set.mode (going_out now s s.entries) (drained now s).gaps)
+    unfolding effect_for going_out lost_under
+    counted = by_test (hands_out now s.queue s.entries)
+      where
+        by_test : (b : Bool) → unwrap_or (then_some b (length (lost_under set.mode (cond b (take 1 s.entries) []) (drained now s).gaps))) 0 ≡ length (lost_under set.mode (cond b (take 1 s.entries) []) (drained now s).gaps)
+        by_test true = refl
+        by_test false = refl
 
-    pub due-few : ascends (gap_numbers s.gaps) ≡ true → d.given + d.lost ≤ length s.gaps
+    pub due-counts : d.given + unwrap_or d.lost 0 ≡ length (lost_with now s (going_out now s s.entries))
+    unfolding effect_for lost_with
+    due-counts = rw (ed, counted) (sym (length-append (given_up_of set s.gaps) _))
+
+    pub due-few : ascends (gap_numbers s.gaps) ≡ true → d.given + unwrap_or d.lost 0 ≤ length s.gaps
     unfolding effect_for drained
-    due-few a = rw ed (both_le set set.mode (going_out now s s.entries) s.gaps a)
+    due-few a = rw (ed, counted) (both_le set set.mode (going_out now s s.entries) s.gaps a)

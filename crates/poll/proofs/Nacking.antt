@@ -1,50 +1,49 @@
 -- `poll_nack`, in a list or on the wire: what its checks pass is what its gaps need to be NACKed, the gaps that the timings make due are those
 -- of the definition, and NACKing changes no number.
 use mathlib.Core.Path.{◌≡◌, refl, sym, ap, ◌∙◌, subst}
-use mathlib.Core.Logic.{◌⊎◌, inl, inr, ⊎_elim}
 use mathlib.Core.Bool.{Bool, true, false, cond}
 use mathlib.Core.List.{List, [], ◌∷◌, map}
 use Prim.Native.Nat.{ℕ, zero, suc, ◌+◌, ◌/◌, ◌≤◌}
 use native.Mathlib.Omega.{arith}
 use lib.Dec.{ltb, eqb}
 use lib.ListN.{length, drop, length-map}
-use borrow.Author.Tests.{eq-eqb, ne_eqb, eqb-true, eqb-false, ltb-false}
+use borrow.Author.Tests.{eqb-true, lt-ltb}
+use Rattle.std.specs.Prelude.{Result, Ok, Err, IsErrAnd}
+use Rattle.std.specs.Bool.{then_some}
 use Rattle.words.specs.Words.{over}
 use Rattle.words.specs.Blocks.{laid}
 use Rattle.words.specs.Order.{ascends}
-use Rattle.words.proofs.Ordered.{and_right, ascends-drop}
-use Rattle.words.proofs.Lists.{map-drop}
-use Rattle.refusals.specs.Refusals.{COUNT, OUTPUT, refuse_if, or_else}
-use Rattle.refusals.proofs.Laws.{or_else-first, or_else_second, or_else-none, passes-last}
-use Rattle.durations.specs.Seconds.{largest}
+use Rattle.words.proofs.Ordered.{and_right}
+use Rattle.refusals.specs.declared.Refusal.{Refusal}
+use Rattle.refusals.specs.Refusals.{COUNT, number, refuse_if, or_else}
+use Rattle.refusals.proofs.Laws.{number_refuses, accepted_unless, or_else_refused, or_else_second, or_else-none, passes-last}
 use Rattle.config.specs.declared.Settings.{Settings}
 use Rattle.config.specs.declared.NackTimings.{NackTimings}
 use Rattle.model.specs.declared.Queue.{Queue}
-use Rattle.model.specs.declared.Session.{Session}
 use Rattle.model.specs.Lists.{keep, some?, every?}
-use Rattle.model.specs.Records.{Gap, gap_numbers}
+use Rattle.model.specs.Records.{Gap, State, gap_numbers}
 use Rattle.model.specs.Rules.{due, nack_due, truncated, full, given_up_of, not_given_up}
 use Rattle.model.specs.Poll.{lose, drained, timings_of, due_gaps, nack_numbers, nack_entries_of, nack_all, after_poll_nack}
-use Rattle.model.specs.Storage.{Stored, gap_words_of, gaps_of, parse, write}
+use Rattle.model.specs.Storage.{Stored, gap_words_of, parse, write}
 use Rattle.nack_pairs.specs.Wire.{entry_bytes, entries}
-use Rattle.model.specs.Calls.{Answer, Call, poll_nack, nack_wire, refused, taken, answered, output_of, output_after, wire, nack_answer}
+use Rattle.model.specs.Calls.{Answer, Call, poll_nack, nack_wire, taken, answered, output_of, output_after, wire, nack_answer}
 use Rattle.model.specs.Table.{session_sound, session_refusal, output_refusal, clock_refusal, count_refusal, nack_count_refusal, nacks_refusal, poll_nack_refusal, call_refusal, refusal}
 use Rattle.model.specs.Did.{Done, accepted}
-use Rattle.model.proofs.SoundQueue.{clock_of}
 use Rattle.model.proofs.OnTheWire.{wire-places}
-use Rattle.model.proofs.Laid.{length-entries_of, length-remembered_of}
+use Rattle.model.proofs.Laid.{length-entries_of, length-remembered_of, parse-gaps}
 use Rattle.packet_gaps.specs.Gaps.{GapsIn, instants_fit, Small}
-use Rattle.model.specs.Contract.{stored, Does}
+use Rattle.model.specs.Contract.{said, stored, Does}
 use Rattle.session.proofs.Bounds.{timings-small}
 use Rattle.storage.specs.Settled.{Settled}
-use Rattle.poll.specs.Steps.{Leaves, drained_session}
-use Rattle.poll.specs.Nacking.{Judging, found_in_of, judged_by, nack_refusal, settled_by, due_in, Nacking, Nacked}
+use Rattle.poll.specs.Answers.{count_answer}
+use Rattle.poll.specs.Steps.{gaps_in, Leaves, drained_session}
+use Rattle.poll.specs.Nacking.{Judging, found_in, judged_by, later_refusal, nack_refusal, drained_by}
 use Rattle.poll.specs.declared.nack.Found.{Found}
-use Rattle.poll.specs.declared.nack.Judged.TheVariants.{Refused, Passed}
-use Rattle.storage.proofs.Settled.{assoc, refused-is, accepted-is, passed_16, checked, ready, holding, settled_of, settings_in, instants}
+use Rattle.storage.proofs.Settled.{assoc, accepted-is, passed_16, checked, holding, settled_of, settings_in, instants}
+use Rattle.poll.proofs.Early.{refused_by, is-room, is_timely}
 use Rattle.poll.proofs.Holding.{leaves_write, lost_in}
 use Rattle.poll.proofs.Parted.{not-given-up}
-use Rattle.poll.proofs.Drained.{left-few, gaps-left, same_long, left_in}
+use Rattle.poll.proofs.Drained.{after_is, after_gaps, after-ascend, after_held, after_fewer, after-long}
 
 every_drop : {A : Type 0} (p : A → Bool) (n : ℕ) (l : List A) → every? p l ≡ true → every? p (drop n l) ≡ true
 unfolding every?
@@ -52,99 +51,77 @@ every_drop p zero l e = e
 every_drop p (suc n) [] e = e
 every_drop p (suc n) (x ∷ l) e = every_drop p n l (and_right (p x) (every? p l) e)
 
--- ---- what is due
+-- ---- 14, by what was found
 
-module _ (now : ℕ) (q : Queue) (l : List Gap) (t : NackTimings) (et : t ≡ timings_of q) where
+module _ (now : ℕ) (m : Stored) (found : Found) (ef : found ≡ found_in m) where
   abbrev set : Settings
-  set = q.config.settings
+  set = m.session.queue.config.settings
 
-  due-left : keep (due t now) (not_given_up set l) ≡ due_gaps now q l
+  pub found-given : found.given ≡ length (given_up_of set (gaps_in m))
+  unfolding found_in
+  found-given = ap (λ (f : Found). f.given) ef
+
+  pub found-timings : found.timings ≡ timings_of m.session.queue
+  unfolding found_in
+  found-timings = ap (λ (f : Found). f.timings) ef
+
+  abbrev lost : ℕ
+  lost = count_refusal ((m.session.queue.counters.lost + found.given) ∷ [])
+
+  -- what the timings make due is what the definition does
+  due-left : keep (due found.timings now) (drop found.given (gaps_in m)) ≡ due_gaps now m.session.queue (gaps_in m)
   unfolding due_gaps
-  due-left = rw et refl
+  due-left = rw (found-given, found-timings, ← not-given-up set set.mode (gaps_in m))
 
-  -- 14, where the first k gaps are given up
-  module _ (k : ℕ) (ek : k ≡ length (given_up_of set l)) (r : ℕ) (er : r ≡ count_refusal ((q.counters.lost + k) ∷ [])) where
-    lost-is : count_refusal ((q.counters.lost + length (given_up_of set l)) ∷ []) ≡ r
-    lost-is = sym (er ∙ ap (λ (i : ℕ). count_refusal ((q.counters.lost + i) ∷ [])) ek)
+  nacks-are : nacks_refusal now m.session.queue (gaps_in m) ≡ or_else lost (nack_count_refusal (due_gaps now m.session.queue (gaps_in m)))
+  unfolding nacks_refusal
+  nacks-are = rw found-given
 
-    pub lost-refused : (r ≡ 0 → ⊥) → r ≡ nacks_refusal now q l
-    unfolding nacks_refusal
-    lost-refused h = sym (rw lost-is (or_else-first r _ h))
+  pub lost-refused : (e : Refusal) → number e ≡ lost → number e ≡ nacks_refusal now m.session.queue (gaps_in m)
+  lost-refused e h = or_else_refused e _ h ∙ sym nacks-are
 
-    module _ (z : r ≡ 0) (b : Bool) (eb : b ≡ some? full (keep (due t now) (drop k l))) where
-      full_is : some? full (due_gaps now q l) ≡ b
-      full_is = sym (eb ∙ ap (λ (i : ℕ). some? full (keep (due t now) (drop i l))) ek ∙ ap (λ (x : List Gap). some? full (keep (due t now) x)) (sym (not-given-up set set.mode l)) ∙ ap (some? full) due-left)
+  module _ (z : 0 ≡ lost) (b : Bool) (eb : b ≡ some? full (keep (due found.timings now) (drop found.given (gaps_in m)))) where
+    full-is : refuse_if b COUNT ≡ nacks_refusal now m.session.queue (gaps_in m)
+    unfolding nack_count_refusal
+    full-is = rw (eb, due-left) (sym (nacks-are ∙ or_else_second _ _ (sym z)))
 
-      after-lost : nacks_refusal now q l ≡ nack_count_refusal (due_gaps now q l)
-      unfolding nacks_refusal
-      after-lost = or_else_second _ _ (lost-is ∙ z)
+    pub count-refused : b ≡ true → COUNT ≡ nacks_refusal now m.session.queue (gaps_in m)
+    unfolding refuse_if
+    count-refused f = rw f at full-is
 
-      pub count-refused : b ≡ true → COUNT ≡ nacks_refusal now q l
-      unfolding nack_count_refusal refuse_if
-      count-refused f = sym (after-lost ∙ rw (full_is, f))
-
-      pub count-passed : b ≡ false → 0 ≡ nacks_refusal now q l
-      unfolding nack_count_refusal refuse_if
-      count-passed f = sym (after-lost ∙ rw (full_is, f))
+    pub count-passed : b ≡ false → 0 ≡ nacks_refusal now m.session.queue (gaps_in m)
+    unfolding refuse_if
+    count-passed f = rw f at full-is
 
 -- ---- what `judge` and `begin` answer
 
--- an answer that is `ok` where the refusal r is 0, and else says r
-judged_is : (r : ℕ) (f : Found) → ((r ≡ 0) × (judged_by r f ≡ Passed f)) ⊎ ((r ≡ 0 → ⊥) × (judged_by r f ≡ Refused r))
-unfolding judged_by
-judged_is r f = by_test (eqb r 0) refl
-  where
-    by_test : (b : Bool) → eqb r 0 ≡ b → ((r ≡ 0) × (cond b (Passed f) (Refused r) ≡ Passed f)) ⊎ ((r ≡ 0 → ⊥) × (cond b (Passed f) (Refused r) ≡ Refused r))
-    by_test true z = inl (eqb-true r 0 z, refl)
-    by_test false z = inr (eqb-false r 0 z, refl)
+-- an answer that is Ok where the refusal is 0, and else says it
+module _ {A : Type 0} (a : A) (r : ℕ) where
+  judged_err : (e : Refusal) → Err (number e) ≡ judged_by r a → number e ≡ r
+  judged_err e = by_test (eqb r 0)
+    where
+      by_test : (b : Bool) → Err (number e) ≡ cond b (Ok a) (Err r) → number e ≡ r
+      by_test true h = cc
+      by_test false h = cc
 
-apart : ◌≡◌ {A = ℕ} 0 1 → ⊥
-apart e = omega arith
+  judged_ok : (b : A) → Ok b ≡ judged_by r a → (r ≡ 0) × (b ≡ a)
+  judged_ok b = by_test (eqb r 0) refl
+    where
+      by_test : (t : Bool) → eqb r 0 ≡ t → Ok b ≡ cond t (Ok a) (Err r) → (r ≡ 0) × (b ≡ a)
+      by_test true z h = (eqb-true r 0 z, cc)
+      by_test false z h = cc
 
-pub judged_refused : (r k : ℕ) (f : Found) → judged_by r f ≡ Refused k → (r ≡ k) × (k ≡ 0 → ⊥)
-judged_refused r k f e = ⊎_elim (λ h. absurd (apart (cc))) (λ h. (cc, λ z. h.0 (cc))) (judged_is r f)
+-- where it is not 0 nothing is altered
+pub left_alone : (now r : ℕ) (m : Stored) (e : Refusal) → number e ≡ r → m ≡ drained_by r now m
+unfolding drained_by
+left_alone now r m e h = rw (← h, number_refuses e)
 
-pub judged_passed : (r : ℕ) (f g : Found) → judged_by r f ≡ Passed g → (r ≡ 0) × (g ≡ f)
-judged_passed r f g e = ⊎_elim (λ h. (h.0, cc)) (λ h. absurd (apart (cc))) (judged_is r f)
-
-pub says-refused : (r : ℕ) (f : Found) → (r ≡ 0 → ⊥) → Refused r ≡ judged_by r f
-unfolding judged_by
-says-refused r f h = rw (ne_eqb r 0 h)
-
-pub says-passed : (r : ℕ) (f g : Found) → r ≡ 0 → g ≡ f → Passed g ≡ judged_by r f
-unfolding judged_by
-says-passed r f g z e = rw (eq-eqb r 0 z, e)
-
-pub left_alone : (r : ℕ) (m : Stored) → (r ≡ 0 → ⊥) → settled_by r m ≡ m
-unfolding settled_by
-left_alone r m h = rw (ne_eqb r 0 h)
-
-pub settled-by : (r : ℕ) (m : Stored) → r ≡ 0 → settled_by r m ≡ write (parse m)
-unfolding settled_by
-settled-by r m z = rw (eq-eqb r 0 z)
-
--- 15 and 8, then 14
-module _ (q : Queue) (needed places now : ℕ) (l : List Gap) (a : ℕ) (ea : a ≡ or_else (output_refusal needed places) (clock_refusal q now)) where
-  judged_chain : poll_nack_refusal needed places now q l ≡ or_else a (nacks_refusal now q l)
-  unfolding poll_nack_refusal
-  judged_chain = assoc (output_refusal needed places) (clock_refusal q now) (nacks_refusal now q l) ∙ ap (λ (x : ℕ). or_else x (nacks_refusal now q l)) (sym ea)
-
-  pub judge_early : (a ≡ 0 → ⊥) → a ≡ poll_nack_refusal needed places now q l
-  judge_early h = sym (judged_chain ∙ or_else-first a _ h)
-
-  module _ (z : a ≡ 0) where
-    pub judge_late : (b : ℕ) → b ≡ nacks_refusal now q l → b ≡ poll_nack_refusal needed places now q l
-    judge_late b eb = eb ∙ sym (judged_chain ∙ or_else_second a _ z)
-
-    pub judge_clock : q.clock ≤ largest
-    judge_clock = omega (arith, clock_of q now (or_else-none _ _ (sym ea ∙ z)).1)
-
-pub found_is : (q : Queue) (l : List Gap) (given : ℕ) (t : NackTimings) → given ≡ length (given_up_of q.config.settings l) → t ≡ timings_of q → record { given = given; timings = t } ≡ found_in_of q l
-unfolding found_in_of
-found_is q l given t eg et = rw (eg, et)
+pub drained-by : (now r : ℕ) (m : Stored) → 0 ≡ r → drained_by r now m ≡ write (drained now (parse m))
+unfolding drained_by
+drained-by now r m z = rw (← z)
 
 -- what check 16 passed
-pub judging : (m : Stored) → session_sound m ≡ true → Judging m.session m.storage.gaps
+pub judging : (m : Stored) → session_sound m ≡ true → Judging m
 unfolding parse
 judging m h =
     let k = checked m h in
@@ -158,169 +135,161 @@ judging m h =
 pub small_are : (q : Queue) (t : NackTimings) → t ≡ timings_of q → Small (timings_of q) → Small t
 small_are q t e h = subst Small (sym e) h
 
--- 16, then the others
 module _ (places now : ℕ) (m : Stored) where
-  abbrev others : ℕ
-  others = poll_nack_refusal m.session.queue.config.settings.max_gaps places now m.session.queue (gaps_of m.storage.gaps m.session.gaps)
+  abbrev early : ℕ
+  early = or_else (output_refusal m.session.queue.config.settings.max_gaps places) (clock_refusal m.session.queue now)
 
-  pub begin_damaged : (a : ℕ) → a ≡ session_refusal m → (a ≡ 0 → ⊥) → a ≡ nack_refusal places now m
+  -- 15 and 8, then 14
+  later_chain : later_refusal places now m ≡ or_else early (nacks_refusal now m.session.queue (gaps_in m))
+  unfolding poll_nack_refusal
+  later_chain = assoc (output_refusal m.session.queue.config.settings.max_gaps places) (clock_refusal m.session.queue now) (nacks_refusal now m.session.queue (gaps_in m))
+
+  pub judge_early : (e : Refusal) → number e ≡ early → number e ≡ later_refusal places now m
+  judge_early e h = or_else_refused e _ h ∙ sym later_chain
+
+  pub judge_late : 0 ≡ early → nacks_refusal now m.session.queue (gaps_in m) ≡ later_refusal places now m
+  judge_late z = sym (later_chain ∙ or_else_second early _ (sym z))
+
+  -- 16, then those
+  pub begin_damaged : (e : Refusal) → number e ≡ session_refusal m → number e ≡ nack_refusal places now m
   unfolding nack_refusal
-  begin_damaged a e h = sym (ap (λ (x : ℕ). or_else x others) (sym e) ∙ or_else-first a others h)
+  begin_damaged e h = or_else_refused e (later_refusal places now m) h
 
-  pub begin_judged : session_refusal m ≡ 0 → nack_refusal places now m ≡ others
+  begin_judged : 0 ≡ session_refusal m → later_refusal places now m ≡ nack_refusal places now m
   unfolding nack_refusal
-  begin_judged z = or_else_second _ _ z
+  begin_judged z = sym (or_else_second _ _ (sym z))
 
--- ---- after `drain`
+  module _ (z : 0 ≡ session_refusal m) where
+    pub begin_late : (e : Refusal) → Err (number e) ≡ judged_by (later_refusal places now m) (found_in m) → number e ≡ nack_refusal places now m
+    begin_late e h = judged_err (found_in m) (later_refusal places now m) e h ∙ begin_judged z
 
-module _ (now : ℕ) (s : Session) (old g : List ℕ) (found : Found) (h : Nacking now s old found) (d : Session) (ed : d ≡ drained_session now s (gaps_of old s.gaps))
-    (eg : g ≡ laid gap_words_of (length old) (not_given_up s.queue.config.settings (gaps_of old s.gaps))) where
-  abbrev t : NackTimings
-  t = found.timings
+    module _ (found : Found) (h : Ok found ≡ judged_by (later_refusal places now m) (found_in m)) where
+      passed : 0 ≡ nack_refusal places now m
+      passed = sym (judged_ok (found_in m) (later_refusal places now m) found h).0 ∙ begin_judged z
 
-  abbrev stay : List Gap
-  stay = not_given_up s.queue.config.settings (gaps_of old s.gaps)
+      found_is : found ≡ found_in m
+      found_is = (judged_ok (found_in m) (later_refusal places now m) found h).1
 
-  count-is : d.gaps ≡ length stay
-  unfolding drained_session
-  count-is = ap (λ (x : Session). x.gaps) ed
+      pub begin-ok : Ok found.timings ≡ judged_by (nack_refusal places now m) (timings_of m.session.queue)
+      begin-ok = rw (found-timings now m found found_is) (accepted_unless (timings_of m.session.queue) passed)
 
-  read_is : gaps_of g d.gaps ≡ stay
-  read_is = ap (gaps_of g) count-is ∙ gaps-left s old g h.gaps_in.room eg
+      module _ (m2 : Stored) (w : m2 ≡ write (parse m)) where
+        still : Settled m2 × (parse m2 ≡ parse m)
+        still = settled_of m m2 (passed_16 m (sym z)) w
 
-  -- those that the loops find due
-  pub due-is : keep (due t now) (gaps_of g d.gaps) ≡ due_gaps now s.queue (gaps_of old s.gaps)
-  due-is = ap (keep (due t now)) read_is ∙ due-left now s.queue (gaps_of old s.gaps) t h.timings_are
+        pub begin_settled : Settled m2 × (found.given ≡ length (given_up_of m2.session.queue.config.settings (gaps_in m2)))
+        unfolding parse
+        begin_settled = (still.0, found-given now m found found_is ∙ ap (λ (s : State). length (given_up_of s.queue.config.settings s.gaps)) (sym still.1))
 
-  pub left-held : GapsIn g d.gaps
-  left-held = rw count-is (left_in s old g h.gaps_in.room eg)
+        pub begun : (m3 : Stored) → m3 ≡ write (drained now (parse m2)) → m3 ≡ drained_by (nack_refusal places now m) now m
+        begun m3 w3 = w3 ∙ ap (λ (s : State). write (drained now s)) still.1 ∙ sym (drained-by now (nack_refusal places now m) m passed)
 
-  pub left_fewer : d.gaps ≤ s.gaps
-  left_fewer = omega (arith, count-is, left-few s old g h.gaps_in.room eg)
+-- ---- the NACKs, after `drain`
 
-  pub left-instants : every? instants_fit (gaps_of g d.gaps) ≡ true
-  left-instants =
-      let set = s.queue.config.settings in
-      let l = gaps_of old s.gaps in
-      ap (every? instants_fit) (read_is ∙ not-given-up set set.mode l) ∙ every_drop instants_fit (length (given_up_of set l)) l h.instants
+-- what the two loops over the gaps need, and the NACKs that they make
+pub record Nacks (room now : ℕ) (m after : Stored) (t : NackTimings) : Type 0 where
+  pub held : GapsIn after.storage.gaps after.session.gaps
+  pub places : after.session.gaps ≤ room
+  pub ascend : ascends (gap_numbers (gaps_in after)) ≡ true
+  pub small : Small t
+  pub instants : every? instants_fit (gaps_in after) ≡ true
+  pub none_full : some? full (keep (due t now) (gaps_in after)) ≡ false
+  pub due_are : keep (due t now) (gaps_in after) ≡ due_gaps now m.session.queue (gaps_in m)
 
-  pub left-none-full : some? full (keep (due t now) (gaps_of g d.gaps)) ≡ false
-  left-none-full = ap (some? full) due-is ∙ h.none_full
-
-  pub left-ascend : ascends (gap_numbers (gaps_of g d.gaps)) ≡ true
-  left-ascend =
-      let set = s.queue.config.settings in
-      let l = gaps_of old s.gaps in
-      let k = length (given_up_of set l) in
-      ap (λ (x : List Gap). ascends (gap_numbers x)) (read_is ∙ not-given-up set set.mode l)
-      ∙ ap ascends (map-drop (λ (x : Gap). x.number) k l)
-      ∙ ascends-drop k (gap_numbers l) h.ascend
-
-  pub left-nacked : (g' : List ℕ) → g' ≡ laid gap_words_of (length g) (nack_due t now (gaps_of g d.gaps)) → Nacked now s old d g'
-  left-nacked g' e =
-      let words =
-      e
-      ∙ ap (λ (n : ℕ). laid gap_words_of n (nack_due t now (gaps_of g d.gaps))) (same_long s old g h.gaps_in.room eg)
-      ∙ ap (λ (l : List Gap). laid gap_words_of (length old) (nack_due t now l)) read_is
-      ∙ ap (λ (x : NackTimings). laid gap_words_of (length old) (nack_due x now stay)) h.timings_are in
-      record { session_is = ed; gaps_are = words }
-
--- ---- the call
-
-module _ (now : ℕ) (m : Stored) (h : Settled m) where
-  nack_leaves : (d : Session) (g : List ℕ) → Nacked now m.session m.storage.gaps d g
-      → Leaves (after_poll_nack now (parse m)) m.storage (stored d m.storage.entries m.storage.payloads g m.storage.remembered)
+module _ (now : ℕ) (m : Stored) (h : Settled m) (after : Stored) (w : after ≡ write (drained now (parse m))) where
+  -- the NACKs are written into the gaps that are left
+  nacked-leaves : (g : List ℕ) → g ≡ laid gap_words_of (length after.storage.gaps) (nack_due (timings_of m.session.queue) now (gaps_in after))
+      → Leaves (after_poll_nack now (parse m)) m.storage (stored after.session after.storage.entries after.storage.payloads g after.storage.remembered)
   unfolding after_poll_nack nack_all drained_session drained parse write lose
-  nack_leaves d g n =
+  nacked-leaves g e =
       let k = holding m h in
       let t = m.storage in
+      let a = after_is now m h after w in
+      let words : g ≡ laid gap_words_of (length m.storage.gaps) (nack_due (timings_of m.session.queue) now (not_given_up m.session.queue.config.settings (gaps_in m))) = e ∙ rw (after-long now m h after w, after_gaps now m h after w) in
       record {
-        session_is = rw (n.session_is, length-entries_of t.entries t.payloads m.session.entries, length-remembered_of t.remembered m.session.remembered, length-map);
-        entries_are = k.entries_in.held;
-        payloads_are = k.entries_in.filled;
-        gaps_are = n.gaps_are;
-        remembered_are = k.remembered_in.held;
+        session_is = rw (a, length-entries_of t.entries t.payloads m.session.entries, length-remembered_of t.remembered m.session.remembered, length-map);
+        entries_are = rw a k.entries_in.held;
+        payloads_are = rw a k.entries_in.filled;
+        gaps_are = words;
+        remembered_are = rw a k.remembered_in.held;
       }
 
-  -- in a list or on the wire, this is left
-  nack-written : (d : Session) (g : List ℕ) → Nacked now m.session m.storage.gaps d g
-      → stored d m.storage.entries m.storage.payloads g m.storage.remembered ≡ write (after_poll_nack now (parse m))
+  nacked-written : (g : List ℕ) → g ≡ laid gap_words_of (length after.storage.gaps) (nack_due (timings_of m.session.queue) now (gaps_in after))
+      → stored after.session after.storage.entries after.storage.payloads g after.storage.remembered ≡ write (after_poll_nack now (parse m))
   unfolding after_poll_nack nack_all drained parse lose
-  nack-written d g n = leaves_write m.storage (after_poll_nack now (parse m)) (holding m h).lengths _ (nack_leaves d g n)
+  nacked-written g e = leaves_write m.storage (after_poll_nack now (parse m)) (holding m h).lengths _ (nacked-leaves g e)
 
 abbrev done : Answer → Stored → List ℕ → Done
 done a m out = record { answer = a; stored = m; output = out }
 
--- any call that is refused as a `poll_nack` with an output of so many places
+-- ---- any call that is refused as a `poll_nack` with an output of so many places
+
 module _ (k : Call) (places now : ℕ) (m : Stored) (same : refusal k m ≡ nack_refusal places now m) where
   abbrev q : Queue
   q = m.session.queue
 
-  abbrev listed : List Gap
-  listed = gaps_of m.storage.gaps m.session.gaps
+  -- a refusal that `begin` passes on
+  pub begin_refused : {A : Type 0} (f : A → Answer) (r : Result A Refusal) (e : Refusal) → IsErrAnd r (λ x. x ≡ e) → Err (number e) ≡ judged_by (nack_refusal places now m) (timings_of q)
+      → (m' : Stored) → m' ≡ drained_by (nack_refusal places now m) now m → Does k m (said f r) m' (output_of k)
+  begin_refused f r e p h m' em =
+      let n = judged_err (timings_of q) (nack_refusal places now m) e h in
+      rw (em, ← left_alone now (nack_refusal places now m) m e n) (refused_by f r e p k m (n ∙ sym same))
 
-  pub turned_back_lem : (n : ℕ) (m' : Stored) → m' ≡ settled_by (nack_refusal places now m) m → nack_refusal places now m ≡ n → (n ≡ 0 → ⊥) → Does k m (refused n) m' (output_of k)
-  turned_back_lem n m' e en h =
-      let alone : m' ≡ m = e ∙ ap (λ (r : ℕ). settled_by r m) en ∙ left_alone n m h in
-      refused-is k m n (sym (same ∙ en)) h ∙ ap (λ (x : Stored). done (refused n) x (output_of k)) (sym alone)
+  module _ (t : NackTimings) (h : Ok t ≡ judged_by (nack_refusal places now m) (timings_of q)) where
+    z : nack_refusal places now m ≡ 0
+    z = (judged_ok (timings_of q) (nack_refusal places now m) t h).0
 
-  module _ (z : nack_refusal places now m ≡ 0) where
-    checks : (session_refusal m ≡ 0) × ((output_refusal q.config.settings.max_gaps places ≡ 0) × ((clock_refusal q now ≡ 0) × (nacks_refusal now q listed ≡ 0)))
-    unfolding nack_refusal poll_nack_refusal
+    timings_are : t ≡ timings_of q
+    timings_are = (judged_ok (timings_of q) (nack_refusal places now m) t h).1
+
+    checks : (session_refusal m ≡ 0) × (0 ≡ or_else (output_refusal q.config.settings.max_gaps places) (clock_refusal q now)) × (nacks_refusal now q (gaps_in m) ≡ 0)
+    unfolding nack_refusal
     checks =
         let a = or_else-none _ _ z in
-        let b = or_else-none _ _ a.1 in
-        let c = or_else-none _ _ b.1 in (a.0, (b.0, (c.0, c.1)))
+        let b = or_else-none _ _ (sym (later_chain places now m) ∙ a.1) in (a.0, sym b.0, b.1)
 
-    pub nack-sound : session_sound m ≡ true
-    nack-sound = passed_16 m checks.0
+    sound : session_sound m ≡ true
+    sound = passed_16 m checks.0
 
-    pub nack-places : m.session.gaps ≤ places
-    unfolding output_refusal refuse_if
-    nack-places =
-        let o = checks.1.0 in
-        let room = ltb-false places q.config.settings.max_gaps (passes-last (ltb places q.config.settings.max_gaps) OUTPUT (omega arith) o) in
-        omega (arith, room, (checked m nack-sound).counts.gaps)
+    -- `begin` settles first
+    abbrev m2 : Stored
+    m2 = write (parse m)
 
-    -- the storage that is settled
-    module _ (e p g r : List ℕ) (w : stored m.session e p g r ≡ settled_by (nack_refusal places now m) m) where
-      abbrev m2 : Stored
-      m2 = stored m.session e p g r
+    settled : Settled m2 × (parse m2 ≡ parse m)
+    settled = settled_of m m2 sound refl
 
-      cleared : m2 ≡ write (parse m)
-      cleared = w ∙ settled-by (nack_refusal places now m) m z
+    module _ (after : Stored) (w : after ≡ drained_by (nack_refusal places now m) now m) where
+      left-is : after ≡ write (drained now (parse m2))
+      left-is = w ∙ drained-by now (nack_refusal places now m) m (sym z) ∙ ap (λ (s : State). write (drained now s)) (sym settled.1)
 
-      pub nacking : (found : Found) → found ≡ found_in_of q listed → Nacking now m.session g found
-      unfolding found_in_of nacks_refusal nack_count_refusal refuse_if parse
-      nacking found ef =
-          let k = ready m nack-sound e p g r cleared in
-          let j = judging m nack-sound in
+      pub nacks : Nacks places now m after t
+      unfolding nacks_refusal nack_count_refusal refuse_if due_gaps parse write
+      nacks =
+          let j = judging m sound in
           let set = q.config.settings in
-          let et : found.timings ≡ timings_of q = ap (λ (f : Found). f.timings) ef in
+          let needed = set.max_gaps in
+          let fewer : after.session.gaps ≤ length (parse m).gaps = after_fewer now m2 settled.0 after left-is in
+          let stay : gaps_in after ≡ not_given_up set (gaps_in m) = after_gaps now m2 settled.0 after left-is ∙ ap (λ (s : State). not_given_up set s.gaps) settled.1 in
+          let due_are : keep (due t now) (gaps_in after) ≡ due_gaps now q (gaps_in m) = rw (stay, timings_are) in
           record {
-            gaps_in = k.gaps_in;
-            ascend = k.gaps-ascend;
-            given_are = ap (λ (f : Found). f.given) ef ∙ ap (λ (l : List Gap). length (given_up_of set l)) (sym k.gaps_are);
-            timings_are = et;
-            small = small_are q found.timings et j.small;
-            lost_fits = j.lost_fits;
-            instants = ap (every? instants_fit) k.gaps_are ∙ j.instants (omega (arith, clock_of q now checks.1.1.0));
-            none_full = ap (λ (l : List Gap). some? full (due_gaps now q l)) k.gaps_are ∙ passes-last (some? full (due_gaps now q listed)) COUNT (omega arith) (or_else-none _ _ checks.1.1.1).1;
+            held = after_held now m2 settled.0 after left-is;
+            places = omega (arith, is-room q needed places now checks.1, (checked m sound).counts.gaps, fewer, parse-gaps m);
+            ascend = after-ascend now m2 settled.0 after left-is;
+            small = small_are q t timings_are j.small;
+            instants = rw (stay, not-given-up set set.mode (gaps_in m)) (every_drop instants_fit (length (given_up_of set (gaps_in m))) (gaps_in m) (j.instants (omega (arith, is_timely q needed places now checks.1))));
+            none_full = ap (some? full) due_are ∙ passes-last (some? full (due_gaps now q (gaps_in m))) COUNT (omega arith) (or_else-none _ _ checks.2).1;
+            due_are = due_are;
           }
 
-      settled : Settled m2 × (parse m2 ≡ parse m)
-      settled = settled_of m m2 nack-sound cleared
-
       -- what a call does that leaves what `poll_nack` leaves, with this answer and this output
-      pub all_done : (a₀ : Answer) (o₀ : List ℕ) → accepted k (parse m2) ≡ done a₀ (write (after_poll_nack now (parse m2))) o₀
-          → (d : Session) (a : Answer) (g' o : List ℕ) → Nacked now m.session g d g' → a ≡ a₀ → o ≡ o₀ → Does k m a (stored d e p g' r) o
-      all_done a₀ o₀ ek d a g' o n ea eo =
-          accepted-is k m 0 (sym (same ∙ z)) refl
-          ∙ ap (accepted k) (sym settled.1)
-          ∙ ek
-          ∙ ap (λ (x : Stored). done a₀ x o₀) (sym (nack-written now m2 settled.0 d g' n))
-          ∙ ap (λ (x : Answer). done x (stored d e p g' r) o₀) (sym ea)
-          ∙ ap (λ (x : List ℕ). done a (stored d e p g' r) x) (sym eo)
+      pub nacks_done : (a₀ : Answer) (o₀ : List ℕ) → accepted k (parse m) ≡ done a₀ (write (after_poll_nack now (parse m))) o₀
+          → (a : Answer) (g o : List ℕ) → g ≡ laid gap_words_of (length after.storage.gaps) (nack_due t now (gaps_in after)) → a ≡ a₀ → o ≡ o₀
+          → Does k m a (stored after.session after.storage.entries after.storage.payloads g after.storage.remembered) o
+      unfolding parse write
+      nacks_done a₀ o₀ ek a g o eg ea eo =
+          let words = rw timings_are at eg in
+          let left = nacked-written now m2 settled.0 after left-is g words ∙ ap (λ (s : State). write (after_poll_nack now s)) settled.1 in
+          accepted-is k m 0 (sym (same ∙ z)) refl ∙ ek ∙ sym (rw (ea, eo, left))
 
 -- ---- `poll_nack`, and the call on the wire, where four bytes are a place
 
@@ -330,7 +299,7 @@ module _ (now : ℕ) (m : Stored) (out : List ℕ) where
   list-refusal = refl
 
   abbrev due' : List Gap
-  due' = due_in now m.session m.storage.gaps
+  due' = due_gaps now m.session.queue (gaps_in m)
 
   pub list-accepted : accepted (poll_nack now out) (parse m) ≡ done (nack_answer (length due')) (write (after_poll_nack now (parse m))) (over (map truncated due') out)
   unfolding accepted answered taken output_after nack_numbers parse
@@ -343,3 +312,9 @@ module _ (now : ℕ) (m : Stored) (out : List ℕ) where
   pub wire-accepted : accepted (nack_wire now out) (parse m) ≡ done (wire (length (entries (gap_numbers due')))) (write (after_poll_nack now (parse m))) (over (entries (gap_numbers due')) out)
   unfolding accepted answered taken output_after nack_entries_of parse
   wire-accepted = refl
+
+-- how many, or nothing
+pub some_count : (n : ℕ) → count_answer (then_some (ltb 0 n) n) ≡ nack_answer n
+unfolding nack_answer
+some_count zero = refl
+some_count (suc n) = rw (lt-ltb 0 (suc n) (omega arith))

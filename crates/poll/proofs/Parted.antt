@@ -11,14 +11,13 @@ use Rattle.config.specs.declared.RtpInboundQueueMode.{RtpInboundQueueMode}
 use Rattle.config.specs.declared.RtpInboundQueueMode.TheVariants.{Passthrough, SortedQueue}
 use Rattle.model.specs.Lists.{leading}
 use Rattle.model.specs.declared.Queue.{Queue}
-use Rattle.model.specs.declared.Session.{Session}
 use Rattle.model.specs.Records.{Gap, gap_numbers, with_clock}
 use Rattle.model.specs.Rules.{tried, given_up_of, given_up_in, not_given_up, not_given_up_in, lost_below_of, left_from_of}
 use Rattle.model.specs.Poll.{lose}
-use Rattle.model.specs.Storage.{gaps_of}
+use Rattle.model.specs.Storage.{Stored}
 use Rattle.model.proofs.Laid.{length-gaps_of}
 use Rattle.packet_gaps.proofs.Model.{below_parts, leading_front}
-use Rattle.poll.specs.Steps.{drained_session}
+use Rattle.poll.specs.Steps.{gaps_in, drained_session}
 
 -- ---- given up
 
@@ -36,8 +35,8 @@ module _ (set : Settings) where
   pub length-not-given-up : (mode : RtpInboundQueueMode) (l : List Gap) → length (not_given_up_in mode set l) ≡ length l - length (given_up_in mode set l)
   length-not-given-up mode l = ap length (not-given-up mode l) ∙ length-drop (length (given_up_in mode set l)) l
 
-pub given-few : (q : Queue) (words : List ℕ) (n k : ℕ) → k ≡ length (given_up_of q.config.settings (gaps_of words n)) → k ≤ n
-given-few q words n k e = omega (arith, e, given-up-le q.config.settings q.config.settings.mode (gaps_of words n), length-gaps_of words n)
+pub given-few : (m : Stored) (k : ℕ) → k ≡ length (given_up_of m.session.queue.config.settings (gaps_in m)) → k ≤ m.session.gaps
+given-few m k e = let set = m.session.queue.config.settings in omega (arith, e, given-up-le set set.mode (gaps_in m), length-gaps_of m.storage.gaps m.session.gaps)
 
 -- ---- below the one handed out
 
@@ -57,10 +56,14 @@ module _ (x : ℕ) (l : List Gap) (a : ascends (gap_numbers l) ≡ true) where
 
 -- ---- the session after `drain`
 
-pub drained-is : (now : ℕ) (s : Session) (l : List Gap) (k : ℕ) (q : Queue) → length l ≡ s.gaps → k ≡ length (given_up_of s.queue.config.settings l)
-    → q ≡ lose k (with_clock s.queue now) → record { queue = q; entries = s.entries; gaps = s.gaps - k; remembered = s.remembered } ≡ drained_session now s l
-unfolding drained_session
-drained-is now s l k q en ek eq =
-    let set = s.queue.config.settings in
-    let z : s.gaps - k ≡ length (not_given_up set l) = omega (arith, length-not-given-up set set.mode l, en, ek) in
-    rw (z, eq, ek)
+module _ (now : ℕ) (m : Stored) (k : ℕ) (ek : k ≡ length (given_up_of m.session.queue.config.settings (gaps_in m))) where
+  pub drained-is : (q : Queue) → q ≡ lose k (with_clock m.session.queue now)
+      → record { queue = q; entries = m.session.entries; gaps = m.session.gaps - k; remembered = m.session.remembered } ≡ drained_session now m.session (gaps_in m)
+  unfolding drained_session
+  drained-is q eq =
+      let set = m.session.queue.config.settings in
+      let z : m.session.gaps - k ≡ length (not_given_up set (gaps_in m)) = omega (arith, length-not-given-up set set.mode (gaps_in m), length-gaps_of m.storage.gaps m.session.gaps, ek) in
+      rw (z, eq, ek)
+
+  pub dropped-is : drop k (gaps_in m) ≡ not_given_up m.session.queue.config.settings (gaps_in m)
+  dropped-is = let set = m.session.queue.config.settings in rw (ek, ← not-given-up set set.mode (gaps_in m))

@@ -1,26 +1,28 @@
--- The answers of the code in 01's terms: for each case of an enum its number and values.
+-- The answers of the code in 01's terms: what an accepted call answers, by its value, or the number of its refusal.
+use Rattle.std.specs.Prelude.{ℕ, Option, None, Some, Result}
+use Rattle.refusals.specs.declared.Refusal.{Refusal}
 use Rattle.model.specs.Calls as Calls
 use Rattle.model.specs.Calls.{Answer, Packet}
+use Rattle.model.specs.Contract.{said}
 use Rattle.poll.specs.declared.HandedOut.{HandedOut}
-use Rattle.poll.specs.declared.PollAnswer.{PollAnswer}
-use Rattle.poll.specs.declared.nack.NackAnswer.{NackAnswer}
-use Rattle.poll.specs.declared.wire.WireAnswer.{WireAnswer}
 
 unfoldable pub packet_of : HandedOut → Packet
 packet_of h =
     record { pt = h.pt; number = h.sequence_number.0; timestamp = h.timestamp.0; ssrc = h.ssrc.0; marker = h.marker; arrival = h.received_at; delay = h.delay; size = h.size }
 
-unfoldable pub poll_answer : PollAnswer → Answer
-unfolding packet_of
-poll_answer PollAnswer.Nothing = Calls.nothing
-poll_answer (PollAnswer.Packet h) = Calls.packet (packet_of h)
-poll_answer (PollAnswer.Refused k) = Calls.refused k
+abbrev pub front_answer : Option HandedOut → Answer
+front_answer None = Calls.nothing
+front_answer (Some h) = Calls.packet (packet_of h)
 
-unfoldable pub nack_answer : NackAnswer → Answer
-nack_answer NackAnswer.Nothing = Calls.nothing
-nack_answer (NackAnswer.Numbers n) = Calls.nack n
-nack_answer (NackAnswer.Refused k) = Calls.refused k
+abbrev pub count_answer : Option ℕ → Answer
+count_answer None = Calls.nothing
+count_answer (Some n) = Calls.nack n
 
-unfoldable pub wire_answer : WireAnswer → Answer
-wire_answer (WireAnswer.Bytes n) = Calls.wire n
-wire_answer (WireAnswer.Refused k) = Calls.refused k
+abbrev pub poll_answer : Result (Option HandedOut) Refusal → Answer
+poll_answer r = said front_answer r
+
+abbrev pub nack_answer : Result (Option ℕ) Refusal → Answer
+nack_answer r = said count_answer r
+
+abbrev pub wire_answer : Result ℕ Refusal → Answer
+wire_answer r = said Calls.wire r

@@ -1,6 +1,6 @@
 -- Laws of `push` and `push_rtx`.
 pub mod Placing
-pub mod Media
+pub mod Queueing
 pub mod Pushing
 pub mod Repaired
 pub mod Repairing

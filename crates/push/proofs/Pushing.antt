@@ -5,9 +5,12 @@ use mathlib.Core.List.{List, []}
 use Prim.Native.Nat.{ℕ, ◌≤◌}
 use native.Mathlib.Omega.{arith}
 use lib.ListN.{length}
-use Rattle.rtp.specs.declared.opt.Opt.TheVariants.{Some}
-use Rattle.refusals.specs.Refusals.{refuse_if, or_else}
-use Rattle.refusals.proofs.Laws.{or_else-first, or_else_second, or_else-none}
+use Rattle.std.specs.Prelude.{Result, Ok, Err, Some, IsErrAnd}
+use Rattle.std.proofs.lemmas.Result.{err_from_is_err_and}
+use borrow.Author.Tests.{eqb-false}
+use Rattle.refusals.specs.declared.Refusal.{Refusal}
+use Rattle.refusals.specs.Refusals.{number, refuse_if, or_else}
+use Rattle.refusals.proofs.Laws.{or_else_second, or_else_refused, or_else-none, number_refuses}
 use Rattle.durations.specs.Seconds.{largest}
 use Rattle.rtp_packet.specs.declared.RtpPacket.{RtpPacket}
 use Rattle.rtp_packet.specs.Header.{between, payload_of}
@@ -30,8 +33,14 @@ use Rattle.session.specs.Place.{place}
 use Rattle.storage.specs.Settled.{Settled}
 use Rattle.storage.proofs.Settled.{checked, refused-is, accepted-is}
 use Rattle.push.specs.declared.Found.{Found}
-use Rattle.push.specs.declared.Judged.TheVariants.{Refused, Accepted}
 use Rattle.push.specs.Media.{Fit, Readable, Read, FoundIn, JudgedAs}
+
+-- what `?` passes on is the refusal that it was given
+pub passed : {A : Type 0} (r : Result A Refusal) (e : Refusal) → IsErrAnd r (λ x. x ≡ e) → r ≡ Err e
+passed r e h = let p = err_from_is_err_and r h in rw (p.1, p.2) refl
+
+pub refuses : (e : Refusal) → number e ≡ 0 → ⊥
+refuses e = eqb-false (number e) 0 (number_refuses e)
 
 -- what the session says of the lists is what the state has
 pub refusal-at : (m : Stored) (e : Row.Entry) (payload : List ℕ) (p : Place) → e.size ≡ length payload
@@ -75,13 +84,13 @@ module _ (instant : ℕ) (d : List ℕ) (m : Stored) where
   unfolding media_refusal parse
   chain = refl
 
-  pub judged_late : (k : ℕ) → k ≡ clock_refusal m.session.queue instant → (k ≡ 0 → ⊥) → JudgedAs instant d (parse m) (Refused k)
+  pub judged_late : (e : Refusal) → number e ≡ clock_refusal m.session.queue instant → JudgedAs instant d (parse m) (Err e)
   unfolding JudgedAs
-  judged_late k e h = (chain ∙ rw (← e) (or_else-first k (or_else unread later) h), h)
+  judged_late e h = chain ∙ sym (or_else_refused e (or_else unread later) h)
 
-  pub judged_unread : (k : ℕ) → clock_refusal m.session.queue instant ≡ 0 → unread ≡ k → (k ≡ 0 → ⊥) → JudgedAs instant d (parse m) (Refused k)
+  pub judged_unread : (e : Refusal) → 0 ≡ clock_refusal m.session.queue instant → unread ≡ number e → JudgedAs instant d (parse m) (Err e)
   unfolding JudgedAs
-  judged_unread k z e h = (chain ∙ or_else_second (clock_refusal m.session.queue instant) (or_else unread later) z ∙ rw e (or_else-first k later h), h)
+  judged_unread e z h = chain ∙ or_else_second (clock_refusal m.session.queue instant) (or_else unread later) (sym z) ∙ sym (or_else_refused e later (sym h))
 
   module _ (p : RtpPacket) (r : Read instant d p m.session.queue) (e : Row.Entry) (payload : List ℕ) (part : payload ≡ payload_of d)
       (is : (b : List ℕ) → entry e b ≡ extended_entry m.session.queue (Some instant) p.timestamp.0 p.sequence_number.0 p.marker b)
@@ -96,11 +105,11 @@ module _ (instant : ℕ) (d : List ℕ) (m : Stored) where
         chain ∙ or_else_second (clock_refusal m.session.queue instant) (or_else unread later) r.in_time ∙ or_else_second unread later r.whole
         ∙ rw (← becomes, ← at) (sym (hk ∙ refusal-at m e (payload_of d) (place pl) (size ∙ ap length part)))
 
-    pub judged_full : (k ≡ 0 → ⊥) → JudgedAs instant d (parse m) (Refused k)
+    pub judged_full : (x : Refusal) → k ≡ number x → JudgedAs instant d (parse m) (Err x)
     unfolding JudgedAs
-    judged_full h = (last, h)
+    judged_full x h = last ∙ h
 
-    pub judged_found : k ≡ 0 → e.arrival ≡ Some instant → JudgedAs instant d (parse m) (Accepted (record { instant = instant; packet = p; entry = e; place = pl }))
+    pub judged_found : k ≡ 0 → e.arrival ≡ Some instant → JudgedAs instant d (parse m) (Ok (record { instant = instant; packet = p; entry = e; place = pl }))
     unfolding JudgedAs
     judged_found z came =
         let in_time = (clock_of m.session.queue instant r.in_time).1 in
@@ -142,20 +151,20 @@ module _ (f : Found) (d : List ℕ) (m : Stored) (payload : List ℕ) (part : pa
 -- ---- the whole call: refused, or applied to storage that is read as the same state
 
 module _ (instant : ℕ) (d : List ℕ) (m : Stored) where
-  pub push_damaged : (k : ℕ) → k ≡ session_refusal m → (k ≡ 0 → ⊥) → did (media instant d) m ≡ record { answer = Calls.refused k; stored = m; output = [] }
+  pub push_damaged : (e : Refusal) → number e ≡ session_refusal m → did (media instant d) m ≡ record { answer = Calls.refused (number e); stored = m; output = [] }
   unfolding output_of refusal
-  push_damaged k e h = refused-is (media instant d) m k (sym (rw (← e) (or_else-first k _ h))) h
+  push_damaged e h = refused-is (media instant d) m (number e) (or_else_refused e _ h) (refuses e)
 
   module _ (h : session_sound m ≡ true) where
     none_of_16 : refusal (media instant d) m ≡ media_refusal instant d (parse m)
     unfolding refusal call_refusal session_refusal refuse_if or_else
     none_of_16 = rw h
 
-    pub push-refused : (k : ℕ) → JudgedAs instant d (parse m) (Refused k) → did (media instant d) m ≡ record { answer = Calls.refused k; stored = m; output = [] }
+    pub push-refused : (e : Refusal) → JudgedAs instant d (parse m) (Err e) → did (media instant d) m ≡ record { answer = Calls.refused (number e); stored = m; output = [] }
     unfolding output_of JudgedAs
-    push-refused k j = refused-is (media instant d) m k (sym (none_of_16 ∙ j.0)) j.1
+    push-refused e j = refused-is (media instant d) m (number e) (sym (none_of_16 ∙ j)) (refuses e)
 
-    pub push_applied : (f : Found) → JudgedAs instant d (parse m) (Accepted f) → (m2 after : Stored) (a : Answer) → parse m2 ≡ parse m → a ≡ answered (media f.instant d) (parse m2) → after ≡ write (taken (media f.instant d) (parse m2))
+    pub push_applied : (f : Found) → JudgedAs instant d (parse m) (Ok f) → (m2 after : Stored) (a : Answer) → parse m2 ≡ parse m → a ≡ answered (media f.instant d) (parse m2) → after ≡ write (taken (media f.instant d) (parse m2))
         → did (media instant d) m ≡ record { answer = a; stored = after; output = [] }
     unfolding JudgedAs accepted output_after
     push_applied f j m2 after a same ha hw =

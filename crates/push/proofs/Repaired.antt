@@ -6,12 +6,12 @@ use Prim.Native.Nat.{ℕ, suc, ◌+◌, ◌*◌, ◌-◌, ◌≤◌, ◌<◌}
 use native.Mathlib.Omega.{arith}
 use lib.Dec.{leb, lit<, nleb→lt}
 use lib.ListN.{length}
-use borrow.Author.Tests.{eq-eqb, ne_eqb}
+use borrow.Author.Tests.{eq-eqb}
 use Rattle.words.specs.Blocks.{laid}
-use Rattle.rtp.specs.declared.opt.Opt.{Opt}
-use Rattle.rtp.specs.declared.opt.Opt.TheVariants.{None, Some}
-use Rattle.refusals.specs.Refusals.{entries_full, refuse_if, or_else}
-use Rattle.refusals.proofs.Laws.{or_else-none}
+use Rattle.std.specs.Prelude.{Option, None, Some}
+use Rattle.refusals.specs.declared.Refusal.{Refusal}
+use Rattle.refusals.specs.Refusals.{number, entries_full, refuse_if, or_else}
+use Rattle.refusals.proofs.Laws.{or_else-none, number_refuses}
 use Rattle.rtp_packet.specs.Datagram.{largest_payload}
 use Rattle.rtx_state.specs.Repair.{record_too_late, record_in_time}
 use Rattle.model.specs.declared.Queue.{Queue}
@@ -23,7 +23,6 @@ use Rattle.model.specs.Rules.{is, gap_of, without, once_of, instant_of, is_of, f
 use Rattle.model.specs.Push.{passed, insert_sorted, too_late, recovered, redundant, repair_fate, queue_too_late, queue_redundant, queue_recovered, after_fate}
 use Rattle.model.specs.Storage.{Stored, entry_words, payload_bytes, arrival_word, entry_words_of, payload_bytes_of, gap_words_of, remembered_words_of, entry_places, entries_of, gaps_of, remembered_of, entries_laid, payloads_laid, gaps_laid, remembered_laid, parse, write}
 use Rattle.model.specs.Calls as Calls
-use Rattle.model.specs.Calls.{Answer}
 use Rattle.model.specs.Table.{count_refusal, fate_values, no_place, fate_refusal, refusal_for, session_sound}
 use Rattle.model.proofs.Lists.{length_insert}
 use Rattle.model.proofs.Laid.{length-entries_of, length-remembered_of}
@@ -38,15 +37,16 @@ use Rattle.storage.specs.Settled.{Settled}
 use Rattle.push.specs.Repair.{left_after, did_fate, did_repair, FitRepair}
 use Rattle.storage.proofs.Settled.{Ready, holding, settled_of}
 use Rattle.push.proofs.Placing.{length-filled}
-use Rattle.push.proofs.Media.{written_as}
+use Rattle.push.proofs.Pushing.{refusal_for_lem}
+use Rattle.push.proofs.Queueing.{written_as}
 
 -- ---- a remembered number that goes
 
-unfoldable Left : ℕ → ℕ → Opt → Type 0
+unfoldable Left : ℕ → ℕ → Option ℕ → Type 0
 Left n k None = k ≡ n
 Left n k (Some i) = suc k ≡ n
 
-left_more : (n k : ℕ) (o : Opt) → Left n k o → Left (suc n) (suc k) o
+left_more : (n k : ℕ) (o : Option ℕ) → Left n k o → Left (suc n) (suc k) o
 unfolding Left
 left_more n k None h = ap suc h
 left_more n k (Some i) h = ap suc h
@@ -60,12 +60,12 @@ forget-left x (r ∷ rs) = go (is_of x r) (forget-left x rs)
     go true h = refl
     go false h = left_more (length rs) (length (forget_first x rs)) (instant_of (keep (is_of x) rs)) h
 
-left_is : (n k : ℕ) (o : Opt) → Left n k o → left_after n o ≡ k
+left_is : (n k : ℕ) (o : Option ℕ) → Left n k o → left_after n o ≡ k
 unfolding Left left_after
 left_is n k None h = sym h
 left_is n k (Some i) h = omega arith
 
-left-some : (n k : ℕ) (o : Opt) (i : ℕ) → o ≡ Some i → Left n k o → 0 < n
+left-some : (n k : ℕ) (o : Option ℕ) (i : ℕ) → o ≡ Some i → Left n k o → 0 < n
 unfolding Left
 left-some n k o i e h = let g = rw e at h in omega arith
 
@@ -78,11 +78,11 @@ module _ (instant : ℕ) (e : Row.Entry) (m : Stored) (s : Settled m) where
   abbrev held : List Remembered
   held = remembered_of m.storage.remembered m.session.remembered
 
-  pub taken-some : (o : Opt) → o ≡ instant_of (keep (is_of e.number.0) held) → (i : ℕ) → o ≡ Some i → 0 < m.session.remembered
+  pub taken-some : (o : Option ℕ) → o ≡ instant_of (keep (is_of e.number.0) held) → (i : ℕ) → o ≡ Some i → 0 < m.session.remembered
   taken-some o h i g = let n : length held ≡ m.session.remembered = length-remembered_of m.storage.remembered m.session.remembered in
       omega (arith, left-some (length held) (length (forget_first e.number.0 held)) (instant_of (keep (is_of e.number.0) held)) i (sym h ∙ g) (forget-left e.number.0 held))
 
-  pub late_is : (q : Queue) (o : Opt) (k : ℕ) (rs : List ℕ) → o ≡ instant_of (keep (is_of e.number.0) held)
+  pub late_is : (q : Queue) (o : Option ℕ) (k : ℕ) (rs : List ℕ) → o ≡ instant_of (keep (is_of e.number.0) held)
       → q ≡ queue_too_late instant o m.session.queue
       → k ≡ left_after m.session.remembered o → rs ≡ laid remembered_words_of (length m.storage.remembered) (forget_first e.number.0 held)
       → (payload : List ℕ) → stored (record { queue = q; entries = m.session.entries; gaps = m.session.gaps; remembered = k }) m.storage.entries m.storage.payloads m.storage.gaps rs ≡ write (after_fate instant (entry e payload) too_late (parse m))
@@ -132,7 +132,7 @@ module _ (instant : ℕ) (e : Row.Entry) (payload : List ℕ) (m : Stored) (f : 
   pub room-left : (entry_words * m.session.entries + entry_words ≤ length m.storage.entries) × (payload_bytes * m.session.entries + payload_bytes ≤ length m.storage.payloads)
   room-left = (omega (arith, ready_repair.lengths.entries, place-left), omega (arith, ready_repair.lengths.payloads, place-left))
 
-  pub recovered_is : (q : Queue) (o : Opt) (es ps gs : List ℕ) → o ≡ once_of (gap_of e.number.0 (gaps_of m.storage.gaps m.session.gaps))
+  pub recovered_is : (q : Queue) (o : Option ℕ) (es ps gs : List ℕ) → o ≡ once_of (gap_of e.number.0 (gaps_of m.storage.gaps m.session.gaps))
       → q ≡ queue_recovered instant o e.size m.session.queue
       → es ≡ laid entry_words_of (length m.storage.entries) (insert_sorted x (entries_of m.storage.entries m.storage.payloads m.session.entries))
       → ps ≡ laid payload_bytes_of (length m.storage.payloads) (insert_sorted x (entries_of m.storage.entries m.storage.payloads m.session.entries))
@@ -160,22 +160,28 @@ pub incoming_repair : (e : Row.Entry) (payload : List ℕ) → e.size ≡ length
 unfolding arrival_word
 incoming_repair e payload size came fit = record { size = size; fits = fit; arrival = rw came (lit< tt) }
 
-module _ (instant : ℕ) (e : Row.Entry) (payload : List ℕ) (f : Code.Fate) (m : Stored) (at : fate f ≡ repair_fate (parse m) e.number.0) where
-  pub fit_repair : (m2 : Stored) → session_sound m ≡ true → m2 ≡ write (parse m) → refusal_for (entry e payload) (fate f) (parse m) ≡ 0 → Incoming e payload → FitRepair e payload f m2
+module _ (instant : ℕ) (e : Row.Entry) (payload : List ℕ) (f : Code.Fate) (m : Stored) (at : fate f ≡ repair_fate (parse m) e.number.0) (size : e.size ≡ length payload) where
+  abbrev under : ℕ
+  under = fate_refusal m.session.queue m.session.entries e.timestamp.0 e.number.0 e.size (fate f)
+
+  under_is : under ≡ refusal_for (entry e payload) (fate f) (parse m)
+  under_is = refusal_for_lem m e payload (fate f) size
+
+  pub fit_repair : (m2 : Stored) → session_sound m ≡ true → m2 ≡ write (parse m) → 0 ≡ under → Incoming e payload → FitRepair e payload f m2
   fit_repair m2 h w z i =
       let k = settled_of m m2 h w in
       record {
         settled = k.0;
         meets = at ∙ ap (λ (t : State). repair_fate t e.number.0) (sym k.1);
-        accepted = ap (refusal_for (entry e payload) (fate f)) k.1 ∙ z;
+        accepted = ap (refusal_for (entry e payload) (fate f)) k.1 ∙ sym (z ∙ under_is);
         incoming = i;
       }
 
-  pub fate-refused : (k : ℕ) → k ≡ refusal_for (entry e payload) (fate f) (parse m) → (k ≡ 0 → ⊥) → did_repair instant (entry e payload) m ≡ record { answer = Calls.refused k; stored = m; output = [] }
+  pub fate-refused : (k : Refusal) → number k ≡ under → did_repair instant (entry e payload) m ≡ record { answer = Calls.refused (number k); stored = m; output = [] }
   unfolding did_repair did_fate
-  fate-refused k hk h = rw (← at, ← hk, ne_eqb k 0 h)
+  fate-refused k h = rw (← at, ← (h ∙ under_is), number_refuses k)
 
-  pub fate-accepted : (m2 after : Stored) (a : Answer) → session_sound m ≡ true → m2 ≡ write (parse m) → refusal_for (entry e payload) (fate f) (parse m) ≡ 0 → a ≡ Calls.repaired (fate f) → after ≡ write (after_fate instant (entry e payload) (fate f) (parse m2))
-      → did_repair instant (entry e payload) m ≡ record { answer = a; stored = after; output = [] }
+  pub fate-accepted : (m2 after : Stored) → session_sound m ≡ true → m2 ≡ write (parse m) → 0 ≡ under → after ≡ write (after_fate instant (entry e payload) (fate f) (parse m2))
+      → did_repair instant (entry e payload) m ≡ record { answer = Calls.repaired (fate f); stored = after; output = [] }
   unfolding did_repair did_fate
-  fate-accepted m2 after a h w z ha hw = rw (← at, eq-eqb (refusal_for (entry e payload) (fate f) (parse m)) 0 z, ha, hw, (settled_of m m2 h w).1)
+  fate-accepted m2 after h w z hw = rw (← at, eq-eqb (refusal_for (entry e payload) (fate f) (parse m)) 0 (sym (z ∙ under_is)), hw, (settled_of m m2 h w).1)

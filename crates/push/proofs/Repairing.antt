@@ -1,13 +1,14 @@
 -- `push_rtx` from the datagram to its answer: each check's number is `did`'s, in 01's order, and an accepted repair is applied as `did` says.
-use mathlib.Core.Path.{◌≡◌, refl, sym, ap, ◌∙◌}
+use mathlib.Core.Path.{◌≡◌, refl, sym, ◌∙◌}
 use mathlib.Core.Bool.{Bool, true, false, cond}
 use mathlib.Core.List.{List, []}
 use Prim.Native.Nat.{ℕ}
 use lib.Dec.{eqb}
-use borrow.Author.Tests.{ne_eqb, eqb-true, eqb-false}
-use Rattle.rtp.specs.declared.opt.Opt.TheVariants.{None}
-use Rattle.refusals.specs.Refusals.{or_else}
-use Rattle.refusals.proofs.Laws.{or_else-first, or_else_second}
+use borrow.Author.Tests.{eqb-true, eqb-false}
+use Rattle.std.specs.Prelude.{None}
+use Rattle.refusals.specs.declared.Refusal.{Refusal}
+use Rattle.refusals.specs.Refusals.{number, or_else}
+use Rattle.refusals.proofs.Laws.{or_else-first, or_else_second, or_else_refused, number_refuses}
 use Rattle.rtp_packet.specs.declared.RtpPacket.{RtpPacket}
 use Rattle.rtp_packet.specs.Header.{payload_of}
 use Rattle.rtp_packet.specs.Datagram.{largest_repair, datagram_refusal, packet_of}
@@ -20,6 +21,7 @@ use Rattle.model.specs.Table.{refusal, call_refusal, original_number_refusal, re
 use Rattle.model.specs.Did.{Done, did, accepted, turned_back}
 use Rattle.push.specs.Repair.{did_fate, did_repair, did_original}
 use Rattle.storage.proofs.Settled.{assoc, refused-is}
+use Rattle.push.proofs.Pushing.{refuses}
 
 -- ---- 10, then 11
 
@@ -27,14 +29,14 @@ module _ (instant : ℕ) (p : RtpPacket) (payload : List ℕ) (m : Stored) where
   abbrev first : ℕ
   first = media_first_refusal m.session.queue
 
-  pub original_early : (k : ℕ) → k ≡ first → (k ≡ 0 → ⊥) → did_original instant p payload m ≡ record { answer = Calls.refused k; stored = m; output = [] }
+  pub original_early : (k : Refusal) → number k ≡ first → did_original instant p payload m ≡ record { answer = Calls.refused (number k); stored = m; output = [] }
   unfolding did_original original_number_refusal
-  original_early k e h = let o : or_else first (original_refusal payload) ≡ k = or_else-first first (original_refusal payload) (λ (z : first ≡ 0). h (e ∙ z)) ∙ sym e in rw (o, ne_eqb k 0 h)
+  original_early k e = rw (← or_else_refused k (original_refusal payload) e, number_refuses k)
 
   module _ (z : first ≡ 0) where
-    pub original-refused-is : (k : ℕ) → original_refusal payload ≡ k → (k ≡ 0 → ⊥) → did_original instant p payload m ≡ record { answer = Calls.refused k; stored = m; output = [] }
+    pub original-refused-is : (k : Refusal) → original_refusal payload ≡ number k → did_original instant p payload m ≡ record { answer = Calls.refused (number k); stored = m; output = [] }
     unfolding did_original original_number_refusal
-    original-refused-is k e h = let o : or_else first (original_refusal payload) ≡ k = or_else_second first (original_refusal payload) z ∙ e in rw (o, ne_eqb k 0 h)
+    original-refused-is k e = let o : or_else first (original_refusal payload) ≡ number k = or_else_second first (original_refusal payload) z ∙ e in rw (o, number_refuses k)
 
     pub original-is : (n : ℕ) (rest : List ℕ) (done : Done) → original_refusal payload ≡ 0 → n ≡ original_number payload → rest ≡ original_payload payload → did_repair instant (extended_entry m.session.queue None p.timestamp.0 n p.marker rest) m ≡ done → did_original instant p payload m ≡ done
     unfolding did_original original_number_refusal
@@ -42,7 +44,8 @@ module _ (instant : ℕ) (p : RtpPacket) (payload : List ℕ) (m : Stored) where
 
 -- ---- the datagram
 
-module _ (instant : ℕ) (d : List ℕ) (m : Stored) (r c : ℕ) (ec : c ≡ or_else (session_refusal m) (clock_refusal m.session.queue instant)) (e : r ≡ or_else c (rtx_refusal m.session.queue)) where
+-- r is what the checks before it come to: 16, 8 and 9
+module _ (instant : ℕ) (d : List ℕ) (m : Stored) (r : ℕ) (e : r ≡ or_else (or_else (session_refusal m) (clock_refusal m.session.queue instant)) (rtx_refusal m.session.queue)) where
   abbrev datagram : ℕ
   datagram = datagram_refusal m.session.queue.config.senders.rtx_pt m.session.queue.config.senders.rtx_ssrc.0 largest_repair d
 
@@ -51,16 +54,16 @@ module _ (instant : ℕ) (d : List ℕ) (m : Stored) (r c : ℕ) (ec : c ≡ or_
 
   chain : refusal (repair instant d) m ≡ or_else r (or_else datagram later)
   unfolding refusal call_refusal repair_refusal parse
-  chain = assoc (session_refusal m) _ _ ∙ assoc _ (rtx_refusal m.session.queue) _ ∙ rw (← ec, ← e)
+  chain = assoc (session_refusal m) _ _ ∙ assoc _ (rtx_refusal m.session.queue) _ ∙ rw (← e)
 
-  pub repair_early : (r ≡ 0 → ⊥) → did (repair instant d) m ≡ record { answer = Calls.refused r; stored = m; output = [] }
+  pub repair_early : (k : Refusal) → number k ≡ r → did (repair instant d) m ≡ record { answer = Calls.refused (number k); stored = m; output = [] }
   unfolding output_of
-  repair_early h = refused-is (repair instant d) m r (sym (chain ∙ or_else-first r _ h)) h
+  repair_early k h = refused-is (repair instant d) m (number k) (or_else_refused k _ h ∙ sym chain) (refuses k)
 
   module _ (z : r ≡ 0) where
-    pub repair_unread : (k : ℕ) → datagram ≡ k → (k ≡ 0 → ⊥) → did (repair instant d) m ≡ record { answer = Calls.refused k; stored = m; output = [] }
+    pub repair_unread : (k : Refusal) → datagram ≡ number k → did (repair instant d) m ≡ record { answer = Calls.refused (number k); stored = m; output = [] }
     unfolding output_of
-    repair_unread k hk h = refused-is (repair instant d) m k (sym (chain ∙ or_else_second r _ z ∙ ap (λ (j : ℕ). or_else j later) hk ∙ or_else-first k later h)) h
+    repair_unread k h = refused-is (repair instant d) m (number k) (or_else_refused k later (sym h) ∙ sym (chain ∙ or_else_second r _ z)) (refuses k)
 
     reads : datagram ≡ 0 → refusal (repair instant d) m ≡ or_else (original_number_refusal m.session.queue (payload_of d)) (refusal_for (repair_entry d m.session.queue) (repair_fate (parse m) (repair_entry d m.session.queue).number) (parse m))
     reads hk = chain ∙ or_else_second r _ z ∙ or_else_second datagram later hk

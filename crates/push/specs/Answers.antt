@@ -1,23 +1,24 @@
--- The answers of the code in 01's terms: for each case of an enum its number and values; and a call that a check may turn back.
-use Rattle.std.specs.Prelude.{cond, [], ℕ, eqb}
-use Rattle.model.specs.Push as Push
+-- The answers of the code in 01's terms: what became of the packet, or the number of the refusal; and a call that a check may turn back.
+use Rattle.std.specs.Prelude.{cond, [], ℕ, eqb, Result}
+use Rattle.refusals.specs.declared.Refusal.{Refusal}
 use Rattle.model.specs.Calls as Calls
 use Rattle.model.specs.Calls.{Answer}
+use Rattle.model.specs.Contract.{said}
 use Rattle.model.specs.Storage.{Stored}
 use Rattle.model.specs.Did.{Done}
-use Rattle.push.specs.declared.MediaAnswer.{MediaAnswer}
-use Rattle.push.specs.declared.rtx.RepairAnswer.{RepairAnswer}
+use Rattle.session.specs.declared.rtx.Fate.{Fate}
+use Rattle.session.specs.Place.{fate}
+use Rattle.push.specs.declared.Media.{Media}
 
-unfoldable pub media_answer : MediaAnswer → Answer
-media_answer MediaAnswer.Queued = Calls.queued
-media_answer MediaAnswer.Dropped = Calls.dropped
-media_answer (MediaAnswer.Refused k) = Calls.refused k
+abbrev pub placed : Media → Answer
+placed Media.Queued = Calls.queued
+placed Media.Dropped = Calls.dropped
 
-unfoldable pub repair_answer : RepairAnswer → Answer
-repair_answer RepairAnswer.Recovered = Calls.repaired Push.recovered
-repair_answer RepairAnswer.Redundant = Calls.repaired Push.redundant
-repair_answer RepairAnswer.TooLate = Calls.repaired Push.too_late
-repair_answer (RepairAnswer.Refused k) = Calls.refused k
+abbrev pub media_answer : Result Media Refusal → Answer
+media_answer r = said placed r
+
+abbrev pub repair_answer : Result Fate Refusal → Answer
+repair_answer r = said (λ f. Calls.repaired (fate f)) r
 
 -- turned back under the number, unless it is 0
 unfoldable pub unless_refused : ℕ → Stored → Done → Done

@@ -1,6 +1,8 @@
 -- The steps of `push` after check 16: what `judge` finds of a datagram, and what `apply` and the functions over the lists ask of it.
-use Rattle.std.specs.Prelude.{◌≡◌, true, List, ℕ, ◌+◌, ◌*◌, ◌-◌, ◌≤◌, ◌<◌, length}
+use Rattle.std.specs.Prelude.{◌≡◌, true, List, ℕ, ◌+◌, ◌*◌, ◌-◌, ◌≤◌, ◌<◌, length, Result, Ok, Err}
 use Rattle.model.specs.Lists.{some?}
+use Rattle.refusals.specs.Refusals.{number}
+use Rattle.refusals.specs.declared.Refusal.{Refusal}
 use Rattle.words.specs.Order.{ascends}
 use Rattle.durations.specs.Seconds.{largest}
 use Rattle.rtp_packet.specs.declared.RtpPacket.{RtpPacket}
@@ -19,8 +21,6 @@ use Rattle.session.specs.declared.push.Place as Code
 use Rattle.session.specs.Place.{place}
 use Rattle.storage.specs.Settled.{Settled}
 use Rattle.push.specs.declared.Found.{Found}
-use Rattle.push.specs.declared.Judged.{Judged}
-use Rattle.push.specs.declared.Judged.TheVariants.{Refused, Accepted}
 
 -- what judging a packet asks of the session and its gaps: row 16 gives it
 pub record Readable (s : Session) (gaps : List ℕ) : Type 0 where
@@ -43,10 +43,10 @@ pub record FoundIn (f : Found) (d : List ℕ) (s : State) : Type 0 where
   pub stands : place f.place ≡ media_place s f.entry.number.0
   pub incoming : Incoming f.entry (payload_of d)
 
--- every row but 16, to the number of the refusal or to what was found
-unfoldable pub JudgedAs : ℕ → List ℕ → State → Judged → Type 0
-JudgedAs instant d s (Refused k) = (media_refusal instant d s ≡ k) × (k ≡ 0 → ⊥)
-JudgedAs instant d s (Accepted f) = (f.instant ≡ instant) × FoundIn f d s
+-- every row but 16, to the refusal or to what was found
+unfoldable pub JudgedAs : ℕ → List ℕ → State → Result Found Refusal → Type 0
+JudgedAs instant d s (Err e) = media_refusal instant d s ≡ number e
+JudgedAs instant d s (Ok f) = (f.instant ≡ instant) × FoundIn f d s
 
 -- the n gaps in the words can take what a number at this place brings
 unfoldable pub Takes : List ℕ → ℕ → ℕ → Place → Type 0

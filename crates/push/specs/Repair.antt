@@ -1,7 +1,5 @@
 -- `push_rtx` once the datagram is read: what becomes of a repair, and what the functions over the lists ask of it.
-use Rattle.std.specs.Prelude.{◌≡◌, List, [], ℕ, ◌-◌}
-use Rattle.rtp.specs.declared.opt.Opt.{Opt}
-use Rattle.rtp.specs.declared.opt.Opt.TheVariants.{None, Some}
+use Rattle.std.specs.Prelude.{◌≡◌, List, [], ℕ, ◌-◌, Option, None, Some}
 use Rattle.rtp_packet.specs.declared.RtpPacket.{RtpPacket}
 use Rattle.rtp_packet.specs.Original.{original_number, original_payload}
 use Rattle.model.specs.Records.{Entry}
@@ -34,7 +32,7 @@ did_original instant p payload m =
     (did_repair instant (extended_entry q None p.timestamp.0 (original_number payload) p.marker (original_payload payload)) m)
 
 -- how many are left of n, where one may have gone
-unfoldable pub left_after : ℕ → Opt → ℕ
+unfoldable pub left_after : ℕ → Option ℕ → ℕ
 left_after n None = n
 left_after n (Some i) = n - 1
 

@@ -1,5 +1,5 @@
 // Where a media packet's number stands (01, "Gap"), and what its place makes of the gaps.
-ghost use Rattle.std.specs.Prelude.{◌≡◌, true, ◌*◌, ◌≤◌, length};
+ghost use Rattle.std.specs.Prelude.{◌≡◌, true, ◌*◌, ◌≤◌, length, Some};
 ghost use Rattle.words.specs.Blocks.{laid};
 ghost use Rattle.words.specs.Order.{ascends};
 ghost use Rattle.model.specs.Records as Records;
@@ -10,15 +10,16 @@ ghost use Rattle.packet_gaps.specs.Gaps.{GapsIn};
 ghost use Rattle.session.specs.Place as Spec;
 ghost use Rattle.push.specs.Media.{Takes};
 
-use model::{LastReceived, Queue};
+use model::{Queue, Received};
 use rtp::ExtendedSequenceNumber;
-use rtp::opt::Opt;
 use session::push::Place;
 
 // 001's MAX_GAP_SIZE.
 const MAX_GAP_SIZE: u64 = 1000;
 
 // Where the number x stands, after the highest so far, h.
+// Stays: the caller lends the words (the C interface), and the session has the count.
+#[tactic(auto, unfolding(session::specs::Place::place, model::specs::Rules::place_of))]
 fn place_after(
     h: ExtendedSequenceNumber,
     gaps: &[u64],
@@ -27,7 +28,7 @@ fn place_after(
 ) -> Place
     requires n_in_bounds { gap_words * n ≤ length gaps.now }
     requires n_value { ascends (Records.gap_numbers (gaps_of gaps.now n)) ≡ true }
-    ensures { Spec.place result ≡ Rules.place_of (Opt.Some h.0) (gaps_of gaps.now n) x.0 }
+    ensures { Spec.place result ≡ Rules.place_of (Some h.0) (gaps_of gaps.now n) x.0 }
 {
     if h.0 < x.0 {
         if x.0 - h.0 <= MAX_GAP_SIZE {
@@ -41,18 +42,22 @@ fn place_after(
     Place::Other
 }
 
-fn place_of(last: LastReceived, gaps: &[u64], n: usize, x: ExtendedSequenceNumber) -> Place
+// Stays: the caller lends the words (the C interface), and the session has the count.
+#[tactic(auto, unfolding(session::specs::Place::place, model::specs::Rules::place_of, model::specs::Records::highest_of))]
+fn place_of(last: Option<Received>, gaps: &[u64], n: usize, x: ExtendedSequenceNumber) -> Place
     requires n_in_bounds { gap_words * n ≤ length gaps.now }
     requires n_value { ascends (Records.gap_numbers (gaps_of gaps.now n)) ≡ true }
     ensures { Spec.place result ≡ Rules.place_of (Records.highest_of last) (gaps_of gaps.now n) x.0 }
 {
     match last {
-        LastReceived::None => Place::First,
-        LastReceived::Some(r) => place_after(r.number, gaps, n, x),
+        None => Place::First,
+        Some(r) => place_after(r.number, gaps, n, x),
     }
 }
 
 // Where a media packet's number stands.
+// Stays: the caller lends the words (the C interface), and the session has the count.
+#[tactic(auto, unfolding(session::specs::Place::place, model::specs::Push::place_in))]
 pub(crate) fn media_place(q: Queue, gaps: &[u64], n: usize, x: ExtendedSequenceNumber) -> Place
     requires n_in_bounds { gap_words * n ≤ length gaps.now }
     requires n_value { ascends (Records.gap_numbers (gaps_of gaps.now n)) ≡ true }
@@ -66,6 +71,7 @@ pub(crate) fn media_place(q: Queue, gaps: &[u64], n: usize, x: ExtendedSequenceN
 }
 
 // 001's `report_received`: the gaps after a packet at this place; the answer is how many there are.
+// Stays: the caller lends the words (the C interface), and the session has the count.
 pub(crate) fn gaps_after(
     gaps: &mut [u64],
     n: usize,
@@ -79,6 +85,7 @@ pub(crate) fn gaps_after(
     ensures value { result ≡ length (Rules.gaps_after instant x.0 (Spec.place place) (gaps_of gaps.old n)) }
     ensures gaps_after { gaps.new ≡ laid gap_words_of (length gaps.old) (Rules.gaps_after instant x.0 (Spec.place place) (gaps_of gaps.old n)) }
 {
+    // Stays: one arm to a place, and each works out another count.
     match place {
         Place::Near(h) => {
             packet_gaps::open_between(gaps, n, h, x, instant);
@@ -98,6 +105,7 @@ pub(crate) fn gaps_after(
 }
 
 // Leaves the gaps from the number x on; the answer is how many there are.
+// Stays: the caller lends the words (the C interface), and the session has the count.
 pub(crate) fn gaps_from(gaps: &mut [u64], n: usize, x: ExtendedSequenceNumber) -> usize
     requires gaps_in { GapsIn gaps.old n }
     requires n_value { ascends (Records.gap_numbers (gaps_of gaps.old n)) ≡ true }

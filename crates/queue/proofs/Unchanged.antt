@@ -1,5 +1,5 @@
 -- The calls that leave the session as it is: what they answer is read of the settled storage, which holds the lists that came.
-use mathlib.Core.Path.{◌≡◌, refl, sym, ap, subst, ◌∙◌}
+use mathlib.Core.Path.{◌≡◌, refl, sym, ap, ◌∙◌}
 use mathlib.Core.Bool.{true}
 use mathlib.Core.List.{List, [], ◌∷◌, zip_with}
 use Prim.Native.Nat.{ℕ, zero, suc, ◌*◌, ◌≤◌, ◌<◌}
@@ -7,23 +7,22 @@ use native.Mathlib.Omega.{arith}
 use lib.Dec.{T}
 use lib.ListN.{length, take, drop}
 use Rattle.words.specs.Blocks.{blocks}
-use Rattle.rtp.specs.declared.opt.Opt.{Opt}
+use Rattle.model.specs.declared.Received.{Received}
+use Rattle.std.specs.Prelude.{Option, None, Some}
 use Rattle.durations.specs.Seconds.{largest}
 use Rattle.refusals.specs.Refusals.{or_else}
 use Rattle.refusals.proofs.Laws.{or_else-first, or_else-none}
-use Rattle.config.specs.declared.NackTimings.{NackTimings}
 use Rattle.config.specs.declared.RtpInboundQueueMode.{RtpInboundQueueMode}
 use Rattle.config.specs.declared.RtpInboundStreamSortedQueueMode.{RtpInboundStreamSortedQueueMode}
 use Rattle.config.specs.declared.RtpInboundQueueMode.TheVariants.{Passthrough, SortedQueue}
 use Rattle.rtx_state.specs.RoundTrip.{opt_rtt_in_range}
 use Rattle.packet_loss.specs.Loss.{loss_in_range}
 use Rattle.config.specs.Valid.{settings_valid}
-use Rattle.model.specs.declared.LastReceived.{LastReceived}
-use Rattle.model.specs.Records.{Entry}
+use Rattle.model.specs.Records.{Entry, State}
 use Rattle.model.specs.Lists.{every?}
 use Rattle.model.specs.Poll.{timings_of, timeout_in, receive_timeout_of, nack_timeout_of}
 use Rattle.model.specs.Valid.{last_sound}
-use Rattle.model.specs.Storage.{Stored, entry_words, payload_bytes, gap_words, entry_of, entries_of, gaps_of, parse, write}
+use Rattle.model.specs.Storage.{Stored, entry_words, payload_bytes, gap_words, entry_of, entries_of, parse, write}
 use Rattle.model.specs.Calls as Calls
 use Rattle.model.specs.Calls.{Answer, Call, taken, answered, output_after}
 use Rattle.model.specs.Table.{session_sound, session_refusal, clock_refusal, call_refusal, refusal}
@@ -32,8 +31,9 @@ use Rattle.model.proofs.Lists.{Each, each_first, each_imp}
 use Rattle.model.proofs.SoundQueue.{clock_of, last-later}
 use Rattle.packet_gaps.specs.Gaps.{instants_fit, Small}
 use Rattle.session.proofs.Bounds.{timings-small}
-use Rattle.model.specs.Contract.{stored, Does}
-use Rattle.storage.proofs.Settled.{checked, Ready, ready, settings_in, instants, accepted-is, passed_16}
+use Rattle.model.specs.Contract.{Does}
+use Rattle.storage.specs.Settled.{Settled}
+use Rattle.storage.proofs.Settled.{Checked, checked, settled_of, settings_in, instants, accepted-is, passed_16}
 
 pub alone : (a : ℕ) → a ≡ or_else a 0
 unfolding or_else
@@ -46,16 +46,21 @@ pub left_as_is : (k : Call) (m x : Stored) (a : Answer) (r : ℕ) → r ≡ refu
 unfolding accepted
 left_as_is k m x a r e z t o b w = accepted-is k m r e z ∙ rw (t, o, b, w)
 
+-- the same where the answer is read of what is left
+pub left_settled_as_is : (k : Call) (m x : Stored) (a : Answer) (r : ℕ) → r ≡ refusal k m → r ≡ 0 → session_sound m ≡ true
+    → taken k (parse m) ≡ parse m → output_after k (parse m) ≡ [] → answered k (parse x) ≡ a → x ≡ write (parse m) → Does k m a x []
+left_settled_as_is k m x a r e z h t o b w = left_as_is k m x a r e z t o (ap (answered k) (sym (settled_of m x h w).1) ∙ b) w
+
 -- ---- the front entry's timeout
 
-module _ (mode : RtpInboundQueueMode) (rate delay : ℕ) (last : LastReceived) (words bytes : List ℕ) (n now : ℕ) where
-  empty : (mode : RtpInboundQueueMode) (last : LastReceived) → Opt.None ≡ timeout_in mode rate delay last [] now
+module _ (mode : RtpInboundQueueMode) (rate delay : ℕ) (last : Option Received) (words bytes : List ℕ) (n now : ℕ) where
+  empty : (mode : RtpInboundQueueMode) (last : Option Received) → None ≡ timeout_in mode rate delay last [] now
   unfolding timeout_in
   empty Passthrough last = refl
-  empty (SortedQueue sorted) LastReceived.None = refl
-  empty (SortedQueue sorted) (LastReceived.Some r) = refl
+  empty (SortedQueue sorted) None = refl
+  empty (SortedQueue sorted) (Some r) = refl
 
-  pub empty-timeout : n ≡ 0 → Opt.None ≡ timeout_in mode rate delay last (entries_of words bytes n) now
+  pub empty-timeout : n ≡ 0 → None ≡ timeout_in mode rate delay last (entries_of words bytes n) now
   unfolding entries_of blocks zip_with
   empty-timeout e = rw e (empty mode last)
 
@@ -65,11 +70,11 @@ module _ (mode : RtpInboundQueueMode) (rate delay : ℕ) (last : LastReceived) (
   first (suc k) ne P f = f (entries_of (drop entry_words words) (drop payload_bytes bytes) k)
 
   module _ (ne : n ≡ 0 → ⊥) where
-    pub waiting-timeout : mode ≡ Passthrough → Opt.Some 0 ≡ timeout_in mode rate delay last (entries_of words bytes n) now
+    pub waiting-timeout : mode ≡ Passthrough → Some 0 ≡ timeout_in mode rate delay last (entries_of words bytes n) now
     unfolding timeout_in
-    waiting-timeout e = rw e (first n ne (λ (l : List Entry). Opt.Some 0 ≡ timeout_in Passthrough rate delay last l now) (λ es. refl))
+    waiting-timeout e = rw e (first n ne (λ (l : List Entry). Some 0 ≡ timeout_in Passthrough rate delay last l now) (λ es. refl))
 
-    pub front_timeout : (sorted : RtpInboundStreamSortedQueueMode) → mode ≡ SortedQueue sorted → (t : ℕ) (r : Opt) → ((p : List ℕ) → (entry_of (take entry_words words) p).timestamp ≡ t)
+    pub front_timeout : (sorted : RtpInboundStreamSortedQueueMode) → mode ≡ SortedQueue sorted → (t : ℕ) (r : Option ℕ) → ((p : List ℕ) → (entry_of (take entry_words words) p).timestamp ≡ t)
         → ((e : Entry) (es : List Entry) → e.timestamp ≡ t → r ≡ timeout_in (SortedQueue sorted) rate delay last (e ∷ es) now)
         → r ≡ timeout_in mode rate delay last (entries_of words bytes n) now
     front_timeout sorted e t r ts f = rw e (first n ne (λ (l : List Entry). r ≡ timeout_in (SortedQueue sorted) rate delay last l now) (λ es. f _ es (ts (take payload_bytes bytes))))
@@ -86,48 +91,44 @@ module _ (m : Stored) (now : ℕ) (h : or_else (session_refusal m) (clock_refusa
   pub timely_sound : session_sound m ≡ true
   timely_sound = passed_16 m (or_else-none (session_refusal m) (clock_refusal m.session.queue now) h).0
 
-  clock : (m.session.queue.clock ≤ now) × (now ≤ largest)
-  clock = clock_of m.session.queue now (or_else-none (session_refusal m) (clock_refusal m.session.queue now) h).1
+  -- what is left of it, settled
+  module _ (x : Stored) (w : x ≡ write (parse m)) where
+    left_settled : Settled x
+    left_settled = (settled_of m x timely_sound w).0
 
-  valid : T (settings_valid m.session.queue.config.settings)
-  valid = settings_in m (checked m timely_sound)
+    same_lists : parse x ≡ parse m
+    same_lists = (settled_of m x timely_sound w).1
 
-  -- the settled slices
-  module _ (e p g r : List ℕ) (w : stored m.session e p g r ≡ write (parse m)) where
-    settled_is : Ready m e p g r
-    settled_is = ready m timely_sound e p g r w
+    held_in : Checked x
+    held_in = checked x left_settled.sound
 
-    pub receive_timed : (T (settings_valid m.session.queue.config.settings) × T (last_sound now m.session.queue.last) × (now ≤ largest))
-        × (T (loss_in_range m.session.queue.loss) × T (opt_rtt_in_range m.session.queue.rtx.rtt))
-        × (entry_words * m.session.entries ≤ length e)
-        × (0 < m.session.entries → (b : List ℕ) → (entry_of (take entry_words e) b).timestamp ≤ largest)
+    clock : (x.session.queue.clock ≤ now) × (now ≤ largest)
+    unfolding parse
+    clock =
+        let c = clock_of m.session.queue now (or_else-none (session_refusal m) (clock_refusal m.session.queue now) h).1 in
+        (rw (ap (λ (s : State). s.queue.clock) same_lists) c.0, c.1)
+
+    pub receive_timed : (T (settings_valid x.session.queue.config.settings) × T (last_sound now x.session.queue.last) × (now ≤ largest))
+        × (T (loss_in_range x.session.queue.loss) × T (opt_rtt_in_range x.session.queue.rtx.rtt))
+        × (entry_words * x.session.entries ≤ length x.storage.entries)
+        × (0 < x.session.entries → (b : List ℕ) → (entry_of (take entry_words x.storage.entries) b).timestamp ≤ largest)
     unfolding parse
     receive_timed =
-        let k = settled_is in
-        let s = k.checked.sound in
-        let l = subst (Each (λ (x : Entry). x.timestamp ≤ largest)) (sym k.entries_are) (each_imp (λ x i. i.timestamp-fits) s.lists_in.entries_in) in
-        ((valid, last-later m.session.queue.last clock.0 s.queue_in.last_in, clock.1), (s.queue_in.loss_in, s.queue_in.rtx_in.rtt_in), k.entries_in.room, front_fits e p m.session.entries l)
+        let s = held_in.sound in
+        let l : Each (λ (e : Entry). e.timestamp ≤ largest) (parse x).entries = each_imp (λ e i. i.timestamp-fits) s.lists_in.entries_in in
+        ((settings_in x held_in, last-later x.session.queue.last clock.0 s.queue_in.last_in, clock.1), (s.queue_in.loss_in, s.queue_in.rtx_in.rtt_in), held_in.room.entries, front_fits x.storage.entries x.storage.payloads x.session.entries l)
 
-    pub received-timeout : (t : Opt) → ((b : List ℕ) → t ≡ receive_timeout_of m.session.queue (entries_of e b m.session.entries) now)
-        → Does (Calls.timeout_receive now) m (Calls.timeout t) (stored m.session e p g r) []
+    pub received-timeout : (t : Option ℕ) → t ≡ receive_timeout_of x.session.queue (parse x).entries now → Does (Calls.timeout_receive now) m (Calls.timeout t) x []
     unfolding taken output_after answered refusal call_refusal parse
     received-timeout t f =
-        let q = m.session.queue in
-        let a : receive_timeout_of q (parse m).entries now ≡ t =
-        sym (f p ∙ ap (λ (l : List Entry). receive_timeout_of q l now) settled_is.entries_are) in
-        left_as_is (Calls.timeout_receive now) m (stored m.session e p g r) (Calls.timeout t) 0 (sym h) refl refl refl (ap Calls.timeout a) w
+        left_as_is (Calls.timeout_receive now) m x (Calls.timeout t) 0 (sym h) refl refl refl (ap Calls.timeout (sym (f ∙ ap (λ (s : State). receive_timeout_of s.queue s.entries now) same_lists))) w
 
-    pub nack-ready : (t : NackTimings) → t ≡ timings_of m.session.queue → (gap_words * m.session.gaps ≤ length g) × ((every? instants_fit (gaps_of g m.session.gaps) ≡ true) × Small t)
+    pub nack-ready : (gap_words * x.session.gaps ≤ length x.storage.gaps) × ((every? instants_fit (parse x).gaps ≡ true) × Small (timings_of x.session.queue))
     unfolding parse
-    nack-ready t et =
-        let k = settled_is in
-        (k.gaps_in.room, (ap (every? instants_fit) k.gaps_are ∙ instants m k.checked (omega (arith, clock)), timings-small m.session.queue t et valid k.checked.sound.queue_in.rtx_in.rtt_in))
+    nack-ready =
+        (held_in.room.gaps, (instants x held_in (omega (arith, clock)), timings-small x.session.queue (timings_of x.session.queue) refl (settings_in x held_in) held_in.sound.queue_in.rtx_in.rtt_in))
 
-    pub nacked-timeout : (t : Opt) (n : NackTimings) → n ≡ timings_of m.session.queue → t ≡ nack_timeout_of n now (gaps_of g m.session.gaps)
-        → Does (Calls.timeout_nack now) m (Calls.timeout t) (stored m.session e p g r) []
+    pub nacked-timeout : (t : Option ℕ) → t ≡ nack_timeout_of (timings_of x.session.queue) now (parse x).gaps → Does (Calls.timeout_nack now) m (Calls.timeout t) x []
     unfolding taken output_after answered refusal call_refusal parse
-    nacked-timeout t n en f =
-        let q = m.session.queue in
-        let a : nack_timeout_of (timings_of q) now (parse m).gaps ≡ t =
-        sym (f ∙ ap (λ (x : NackTimings). nack_timeout_of x now (gaps_of g m.session.gaps)) en ∙ ap (nack_timeout_of (timings_of q) now) settled_is.gaps_are) in
-        left_as_is (Calls.timeout_nack now) m (stored m.session e p g r) (Calls.timeout t) 0 (sym h) refl refl refl (ap Calls.timeout a) w
+    nacked-timeout t f =
+        left_as_is (Calls.timeout_nack now) m x (Calls.timeout t) 0 (sym h) refl refl refl (ap Calls.timeout (sym (f ∙ ap (λ (s : State). nack_timeout_of (timings_of s.queue) now s.gaps) same_lists))) w

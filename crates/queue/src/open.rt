@@ -1,28 +1,28 @@
 // The opening: checks 1, then 16 for the lengths alone; the storage is zeros after it.
 ghost use Rattle.std.specs.Prelude.{◌≡◌};
+ghost use Rattle.refusals.specs.Refusals.{refusal_of};
 ghost use Rattle.model.specs.Records.{new_state};
 ghost use Rattle.model.specs.Storage.{write};
 ghost use Rattle.model.specs.Table.{opening_refusal};
 ghost use Rattle.queue.specs.Answers.{opening_answer};
 ghost use Rattle.model.specs.Contract.{storage, lent, left, Opens};
 
-use super::Opening;
 use jitter::Jitter;
-use model::{Config, Counters, LastReceived, Queue, Session};
+use model::{Config, Counters, Queue, Session};
 use packet_loss::PacketLoss;
-use rtp::opt::OptNumber;
+use refusals::Refusal;
 use rtx_state::RtxState;
 
 // A session that holds nothing.
+#[tactic(auto, unfolding(model::specs::Records::new_queue, model::specs::Records::new_state, model::specs::Storage::write))]
 fn new_session(config: Config) -> Session
     ensures { result ≡ (write (new_state config)).session }
 {
-    let set = config.settings;
     let queue = Queue {
         config,
         clock: 0,
-        last: LastReceived::None,
-        returned: OptNumber::None,
+        last: None,
+        returned: None,
         rtx: RtxState::new(),
         counters: Counters {
             dropped: 0,
@@ -30,7 +30,7 @@ fn new_session(config: Config) -> Session
             bytes: 0,
             lost: 0,
         },
-        jitter: Jitter::new(set.clock_rate),
+        jitter: Jitter::new(config.settings.clock_rate),
         loss: PacketLoss::new(),
     };
     Session {
@@ -41,23 +41,23 @@ fn new_session(config: Config) -> Session
     }
 }
 
-fn refusal(
+#[tactic(auto, unfolding(model::specs::Table::opening_refusal, refusals::specs::Refusals::refuse_if, refusals::specs::Refusals::or_else))]
+fn check_opening(
     config: Config,
     entries: &[u64],
     payloads: &[u8],
     gaps: &[u64],
     remembered: &[u64],
-) -> u64
-    ensures { result ≡ opening_refusal config (storage entries.now payloads.now gaps.now remembered.now) }
+) -> Result<(), Refusal>
+    ensures { refusal_of result ≡ opening_refusal config (storage entries.now payloads.now gaps.now remembered.now) }
 {
     if !checks::config_valid(config) {
-        return refusals::SETTINGS;
+        return Err(Refusal::Settings);
     }
-    let set = config.settings;
-    if storage::lengths_fit(set, entries, payloads, gaps, remembered) {
-        return 0;
+    if storage::lengths_fit(config.settings, entries, payloads, gaps, remembered) {
+        return Ok(());
     }
-    refusals::SESSION
+    Err(Refusal::Session)
 }
 
 pub fn open(
@@ -66,16 +66,13 @@ pub fn open(
     payloads: &mut [u8],
     gaps: &mut [u64],
     remembered: &mut [u64],
-) -> Opening
+) -> Result<Session, Refusal>
     ensures { Opens config (lent entries payloads gaps remembered) (opening_answer result) (left entries payloads gaps remembered) }
 {
-    let refused = refusal(config, entries, payloads, gaps, remembered);
-    if refused != 0 {
-        return Opening::Refused(refused);
-    }
+    check_opening(config, entries, payloads, gaps, remembered)?;
     words::tidy(entries, 0);
-    words::octets::tidy(payloads, 0);
+    words::tidy(payloads, 0);
     words::tidy(gaps, 0);
     words::tidy(remembered, 0);
-    Opening::Session(new_session(config))
+    Ok(new_session(config))
 }

@@ -1,6 +1,9 @@
 // The calls that leave the session as it is: the two timeouts, the figures of repairs and the highest number. An accepted one still puts
 // zeros into the unused places.
-ghost use Rattle.std.specs.Prelude.{◌≡◌, List, [], ◌∷◌, ℕ, ◌*◌, ◌≤◌, ◌<◌, T, length, take};
+ghost use Rattle.model.specs.Lists.{every?};
+ghost use Rattle.packet_gaps.specs.Gaps.{instants_fit, Small};
+ghost use Rattle.std.specs.Prelude.{◌≡◌, true, List, [], ◌∷◌, ℕ, ◌*◌, ◌≤◌, ◌<◌, T, length, take};
+ghost use Rattle.rtp.specs.Opt.{number_of};
 ghost use Rattle.durations.specs.Seconds.{largest};
 ghost use Rattle.config.specs.declared.RtpInboundStreamSortedQueueMode.{RtpInboundStreamSortedQueueMode};
 ghost use Rattle.config.specs.declared.RtpInboundQueueMode.TheVariants.{SortedQueue};
@@ -10,32 +13,34 @@ ghost use Rattle.config.specs.Valid.{longest, settings_valid};
 ghost use Rattle.model.specs.Records.{Entry, highest_of};
 ghost use Rattle.model.specs.Poll as Poll;
 ghost use Rattle.model.specs.Valid.{last_sound};
-ghost use Rattle.model.specs.Storage.{entry_words, entry_of, entries_of};
+ghost use Rattle.model.specs.Storage.{entry_words, gap_words, entry_of, parse};
 ghost use Rattle.model.specs.Calls as Calls;
-ghost use Rattle.queue.specs.Answers.{timeout_answer, stats_answer, highest_answer};
-ghost use Rattle.model.specs.Contract.{before, after, Does};
+ghost use Rattle.queue.specs.Answers.{highest_answer};
+ghost use Rattle.model.specs.Contract.{said, Does};
+ghost use Rattle.storage.specs.Held.{held, SameSlices};
 
-use super::{HighestAnswer, StatsAnswer, TimeoutAnswer};
 use config::RtpInboundQueueMode;
-use model::{LastReceived, Queue, Session};
-use rtp::ExtendedRtpTimestamp;
-use rtp::opt::Opt;
-use stats::OptRtxStats;
+use model::{Queue, Received};
+use refusals::Refusal;
+use rtp::{ExtendedRtpTimestamp, ExtendedSequenceNumber};
+use stats::RtpInboundRtxStats;
+use storage::Held;
 
 // Nanoseconds until the front entry of a sorted queue, which has this timestamp, is due.
+#[tactic(auto, unfolding(model::specs::Poll::timeout_in))]
 fn until_front(
     rate: u32,
     delay: u64,
-    last: LastReceived,
+    last: Option<Received>,
     timestamp: ExtendedRtpTimestamp,
     now: u64,
-) -> Opt
+) -> Option<u64>
     requires { (1 ≤ rate) × (delay ≤ longest) × T (last_sound now last) × (timestamp.0 ≤ largest) × (now ≤ largest) }
     ensures { (sorted : RtpInboundStreamSortedQueueMode) (e : Entry) (es : List Entry) → e.timestamp ≡ timestamp.0 → result ≡ Poll.timeout_in (SortedQueue sorted) rate delay last (e ∷ es) now }
 {
     match last {
-        LastReceived::None => Opt::None,
-        LastReceived::Some(r) => Opt::Some(handout::timeout_receive(
+        None => None,
+        Some(r) => Some(handout::timeout_receive(
             r.instant,
             r.timestamp,
             timestamp,
@@ -46,132 +51,103 @@ fn until_front(
     }
 }
 
-// Nanoseconds until the front of the n entries is due.
-fn receive_timeout(q: Queue, entries: &[u64], n: usize, now: u64) -> Opt
-    requires t { T (settings_valid q.config.settings) × T (last_sound now q.last) × (now ≤ largest) }
-    requires t_2 { T (loss_in_range q.loss) × T (opt_rtt_in_range q.rtx.rtt) }
-    requires n_in_bounds { entry_words * n ≤ length entries.now }
-    requires p_bound { 0 < n → (p : List ℕ) → (entry_of (take entry_words entries.now) p).timestamp ≤ largest }
-    ensures { (bytes : List ℕ) → result ≡ Poll.receive_timeout_of q (entries_of entries.now bytes n) now }
+// Nanoseconds until the front entry is due.
+fn receive_timeout(q: &Held, now: u64) -> Option<u64>
+    requires sound { T (settings_valid q.now.session.queue.config.settings) × T (last_sound now q.now.session.queue.last) × (now ≤ largest) }
+    requires in_range { T (loss_in_range q.now.session.queue.loss) × T (opt_rtt_in_range q.now.session.queue.rtx.rtt) }
+    requires n_in_bounds { entry_words * q.now.session.entries ≤ length q.now.entries.now }
+    requires front_fits { 0 < q.now.session.entries → (p : List ℕ) → (entry_of (take entry_words q.now.entries.now) p).timestamp ≤ largest }
+    ensures { result ≡ Poll.receive_timeout_of q.now.session.queue (parse (held q.now)).entries now }
 {
-    if n == 0 {
-        return Opt::None;
+    let session = q.session;
+    if session.entries == 0 {
+        return None;
     }
-    let config = q.config;
-    let set = config.settings;
-    let mode = set.mode;
-    let last = q.last;
-    match mode {
-        RtpInboundQueueMode::Passthrough => Opt::Some(0),
+    let queue = session.queue;
+    let set = queue.config.settings;
+    match set.mode {
+        RtpInboundQueueMode::Passthrough => Some(0),
         RtpInboundQueueMode::SortedQueue(_) => {
-            let delay = session::poll::target_delay(q);
-            let front = entries::read(entries, 0);
-            until_front(set.clock_rate, delay, last, front.timestamp, now)
+            let delay = session::poll::target_delay(queue);
+            let front = entries::read(q.entries, 0);
+            until_front(set.clock_rate, delay, queue.last, front.timestamp, now)
         }
     }
 }
 
 // Nanoseconds until `poll` should be called; it may hand out nothing then (docs/USING.md, "Driving it").
-pub fn timeout_receive(
-    session: Session,
-    entries: &mut [u64],
-    payloads: &mut [u8],
-    gaps: &mut [u64],
-    remembered: &mut [u64],
-    now: u64,
-) -> TimeoutAnswer
-    ensures { Does (Calls.timeout_receive now) (before entries payloads gaps remembered session) (timeout_answer result) (after entries payloads gaps remembered session) [] }
+pub fn timeout_receive(q: &mut Held, now: u64) -> Result<Option<u64>, Refusal>
+    ensures same_slices { SameSlices q.old q.new }
+    ensures same_session { q.new.session ≡ q.old.session }
+    ensures does { Does (Calls.timeout_receive now) (held q.old) (said Calls.timeout result) (held q.new) [] }
 {
-    let refusal = storage::session_and_clock_refusal(
-        session, entries, payloads, gaps, remembered, now,
-    );
-    if refusal != 0 {
-        return TimeoutAnswer::Refused(refusal);
-    }
-    storage::settle(session, entries, payloads, gaps, remembered);
-    TimeoutAnswer::Timeout(receive_timeout(session.queue, entries, session.entries, now))
+    q.check_session_and_clock(now)?;
+    q.settle();
+    Ok(receive_timeout(q, now))
+}
+
+// Nanoseconds until a gap is due.
+#[tactic(auto, unfolding(model::specs::Storage::parse))]
+fn nack_timeout(q: &Held, now: u64) -> Option<u64>
+    requires in_bounds { gap_words * q.now.session.gaps ≤ length q.now.gaps.now }
+    requires fit { every? instants_fit (parse (held q.now)).gaps ≡ true }
+    requires small { Small (Poll.timings_of q.now.session.queue) }
+    ensures { result ≡ Poll.nack_timeout_of (Poll.timings_of q.now.session.queue) now (parse (held q.now)).gaps }
+{
+    let session = q.session;
+    let timings = session::nack::nack_timings(session.queue);
+    packet_gaps::nacks::timeout_nacks(q.gaps, session.gaps, now, timings)
 }
 
 // Nanoseconds until `poll_nack` should be called; it may give a number up in the place of a NACK.
-pub fn timeout_nack(
-    session: Session,
-    entries: &mut [u64],
-    payloads: &mut [u8],
-    gaps: &mut [u64],
-    remembered: &mut [u64],
-    now: u64,
-) -> TimeoutAnswer
-    ensures { Does (Calls.timeout_nack now) (before entries payloads gaps remembered session) (timeout_answer result) (after entries payloads gaps remembered session) [] }
+pub fn timeout_nack(q: &mut Held, now: u64) -> Result<Option<u64>, Refusal>
+    ensures same_slices { SameSlices q.old q.new }
+    ensures same_session { q.new.session ≡ q.old.session }
+    ensures does { Does (Calls.timeout_nack now) (held q.old) (said Calls.timeout result) (held q.new) [] }
 {
-    let refusal = storage::session_and_clock_refusal(
-        session, entries, payloads, gaps, remembered, now,
-    );
-    if refusal != 0 {
-        return TimeoutAnswer::Refused(refusal);
-    }
-    storage::settle(session, entries, payloads, gaps, remembered);
-    let timings = session::nack::nack_timings(session.queue);
-    TimeoutAnswer::Timeout(packet_gaps::nacks::timeout_nacks(gaps, session.gaps, now, timings))
+    q.check_session_and_clock(now)?;
+    q.settle();
+    Ok(nack_timeout(q, now))
 }
 
-fn figures(q: Queue) -> OptRtxStats
+#[tactic(auto, unfolding(model::specs::Poll::repair_figures_of))]
+fn figures(q: Queue) -> Option<RtpInboundRtxStats>
     ensures { result ≡ Poll.repair_figures_of q }
 {
-    let config = q.config;
-    let rtx = q.rtx;
-    if config.senders.has_rtx {
-        OptRtxStats::Some(rtx.stats())
+    if q.config.senders.has_rtx {
+        Some(q.rtx.stats())
     } else {
-        OptRtxStats::None
+        None
     }
 }
 
 // The figures of repairs, which a session without RTX has none of.
-pub fn rtx_stats(
-    session: Session,
-    entries: &mut [u64],
-    payloads: &mut [u8],
-    gaps: &mut [u64],
-    remembered: &mut [u64],
-) -> StatsAnswer
-    ensures { Does Calls.rtx_stats (before entries payloads gaps remembered session) (stats_answer result) (after entries payloads gaps remembered session) [] }
+pub fn rtx_stats(q: &mut Held) -> Result<Option<RtpInboundRtxStats>, Refusal>
+    ensures same_slices { SameSlices q.old q.new }
+    ensures same_session { q.new.session ≡ q.old.session }
+    ensures does { Does Calls.rtx_stats (held q.old) (said Calls.stats result) (held q.new) [] }
 {
-    let refusal = storage::session_refusal(session, entries, payloads, gaps, remembered);
-    if refusal != 0 {
-        return StatsAnswer::Refused(refusal);
-    }
-    storage::settle(session, entries, payloads, gaps, remembered);
-    StatsAnswer::Stats(figures(session.queue))
+    q.check_session()?;
+    q.settle();
+    Ok(figures(q.session.queue))
 }
 
-fn highest(last: LastReceived) -> HighestAnswer
-    ensures { highest_answer result ≡ Calls.highest (highest_of last) }
+#[tactic(auto, unfolding(rtp::specs::Opt::number_of, model::specs::Records::highest_of))]
+fn highest(last: Option<Received>) -> Option<ExtendedSequenceNumber>
+    ensures { number_of result ≡ highest_of last }
 {
-    match last {
-        LastReceived::None => HighestAnswer::None,
-        LastReceived::Some(r) => {
-            let number = r.number;
-            HighestAnswer::Number(number)
-        }
-    }
+    last.map(|r| r.number)
 }
 
 // The highest number that a media packet had.
 pub fn highest_sequence_number_received(
-    session: Session,
-    entries: &mut [u64],
-    payloads: &mut [u8],
-    gaps: &mut [u64],
-    remembered: &mut [u64],
-) -> HighestAnswer
-    ensures { Does Calls.highest_received (before entries payloads gaps remembered session) (highest_answer result) (after entries payloads gaps remembered session) [] }
+    q: &mut Held,
+) -> Result<Option<ExtendedSequenceNumber>, Refusal>
+    ensures same_slices { SameSlices q.old q.new }
+    ensures same_session { q.new.session ≡ q.old.session }
+    ensures does { Does Calls.highest_received (held q.old) (said highest_answer result) (held q.new) [] }
 {
-    let refusal = storage::session_refusal(session, entries, payloads, gaps, remembered);
-    if refusal != 0 {
-        return HighestAnswer::Refused(refusal);
-    }
-    storage::settle(session, entries, payloads, gaps, remembered);
-    let queue = session.queue;
-    let last = queue.last;
-    highest(last)
+    q.check_session()?;
+    q.settle();
+    Ok(highest(q.session.queue.last))
 }

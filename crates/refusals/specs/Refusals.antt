@@ -1,5 +1,7 @@
 -- 01, "Where a call is turned back", and 02: the numbers of the table, by the names that the code has for them, and how checks follow each other.
-use Rattle.std.specs.Prelude.{Bool, cond, List, [], ◌∷◌, ℕ, eqb}
+use Rattle.std.specs.Prelude.{Bool, cond, List, [], ◌∷◌, ℕ, eqb, Result, Ok, Err}
+use Rattle.refusals.specs.declared.Refusal.{Refusal}
+use Rattle.refusals.specs.declared.Refusal.TheVariants as Refusal
 
 abbrev pub SETTINGS : ℕ
 SETTINGS = 1
@@ -62,6 +64,38 @@ line_version = 21
 abbrev pub numbers : List ℕ
 numbers =
     SETTINGS ∷ TRUNCATED ∷ VERSION ∷ PADDING ∷ payload_too_large ∷ payload_type ∷ SSRC ∷ CLOCK ∷ no_rtx ∷ no_media ∷ no_original_number ∷ gaps_full ∷ entries_full ∷ COUNT ∷ OUTPUT ∷ SESSION ∷ nack_entries ∷ settings_line ∷ line_version ∷ []
+
+-- the number of a refusal
+abbrev pub number : Refusal → ℕ
+number Refusal.Settings = SETTINGS
+number Refusal.Truncated = TRUNCATED
+number Refusal.Version = VERSION
+number Refusal.Padding = PADDING
+number Refusal.PayloadTooLarge = payload_too_large
+number Refusal.PayloadType = payload_type
+number Refusal.Ssrc = SSRC
+number Refusal.Clock = CLOCK
+number Refusal.NoRtx = no_rtx
+number Refusal.NoMedia = no_media
+number Refusal.NoOriginalNumber = no_original_number
+number Refusal.GapsFull = gaps_full
+number Refusal.EntriesFull = entries_full
+number Refusal.Count = COUNT
+number Refusal.Output = OUTPUT
+number Refusal.Session = SESSION
+number Refusal.NackEntries = nack_entries
+number Refusal.SettingsLine = settings_line
+number Refusal.LineVersion = line_version
+
+-- the number under which a call was refused; 0 where it was not
+abbrev pub refusal_of : {A : Type 0} → Result A Refusal → ℕ
+refusal_of (Ok x) = 0
+refusal_of (Err e) = number e
+
+-- what a call came to: its value, or the number under which it was refused
+abbrev pub numbered : {A : Type 0} → Result A Refusal → Result A ℕ
+numbered (Ok x) = Ok x
+numbered (Err e) = Err (number e)
 
 -- a check's number, where its test is true; 0 is none
 unfoldable pub refuse_if : Bool → ℕ → ℕ

@@ -1,237 +1,255 @@
-// Answers as docs/TRACE.md has them ("Calls"): each is put into the record of its line, and `write` puts the record's line into the output.
-use crate::record::{COUNT, FIRST, Record, SIZE, TAIL, WORD};
-use crate::{put, record};
+// Answers as docs/TRACE.md has them ("Calls").
 use config::Settings;
-use nack_pairs::read::ReadAnswer;
-use poll::nack::NackAnswer;
-use poll::wire::WireAnswer;
-use poll::{HandedOut, PollAnswer};
-use push::MediaAnswer;
-use push::rtx::RepairAnswer;
-use queue::{HighestAnswer, StatsAnswer, TimeoutAnswer};
-use rtp::opt::Opt;
-use settings_line::{ReadSettings, WroteSettings};
-use stats::{OptRtxStats, RtpInboundRtxStats};
+use poll::HandedOut;
+use push::Media;
+use refusals::Refusal;
+use rtp::ExtendedSequenceNumber;
+use session::rtx::Fate;
+use stats::RtpInboundRtxStats;
+use std::fmt::Display;
+use std::io::Write;
+use std::{fmt, io};
 
-// A word alone.
-pub(crate) fn word(r: &mut Record, word: u64) {
-    r[WORD] = word;
-    r[COUNT] = 0;
-    r[TAIL] = record::NO_TAIL;
-}
+// A value, or a dash where it is missing.
+#[derive(Clone, Copy)]
+pub struct OrDash(pub Option<u64>);
 
-// A word and a number.
-fn one(r: &mut Record, word: u64, n: u64) {
-    r[WORD] = word;
-    r[COUNT] = 1;
-    r[TAIL] = record::NO_TAIL;
-    r[FIRST] = n;
-}
-
-// A word and what stands behind it, or `nothing` where that is empty.
-pub(crate) fn list(r: &mut Record, word: u64, tail: u64, size: usize) {
-    r[WORD] = word;
-    r[COUNT] = 0;
-    r[TAIL] = tail;
-    r[SIZE] = size as u64;
-    if size == 0 {
-        r[WORD] = record::NOTHING;
-        r[TAIL] = record::NO_TAIL;
+impl Display for OrDash {
+    fn fmt<W: fmt::Write>(&self, f: &mut fmt::Formatter<W>) -> fmt::Result {
+        match self.0 {
+            Some(n) => n.fmt(f),
+            None => f.write_str("-"),
+        }
     }
 }
 
-pub(crate) fn refused(r: &mut Record, number: u64) {
-    one(r, record::REFUSED, number);
+// How many bytes of HEX are made at once.
+const CHUNK: usize = 256;
+
+// A field of HEX, with the blank before it.
+pub(crate) fn hex<W: Write>(out: &mut W, bytes: &[u8]) -> io::Result<()> {
+    if bytes.is_empty() {
+        return out.write_all(b" -");
+    }
+    out.write_all(b" ")?;
+    let mut digits = [0u8; 2 * CHUNK];
+    for chunk in bytes.chunks(CHUNK) {
+        let made = &mut digits[..2 * chunk.len()];
+        hex::encode_to_slice(chunk, made).unwrap();
+        out.write_all(made)?;
+    }
+    Ok(())
 }
 
-pub(crate) fn media(r: &mut Record, answer: MediaAnswer) {
+// Numbers, with the blank before each.
+#[derive(Drop)]
+struct Numbers<'a, N>(&'a [N]);
+
+impl<N: Display> Display for Numbers<'_, N> {
+    fn fmt<W: fmt::Write>(&self, f: &mut fmt::Formatter<W>) -> fmt::Result {
+        for n in self.0 {
+            write!(f, " {n}")?;
+        }
+        Ok(())
+    }
+}
+
+// A word and numbers, or `nothing` where there are none.
+fn list<W: Write, N: Display + Drop>(out: &mut W, word: &str, numbers: &[N]) -> io::Result<()> {
+    if numbers.is_empty() {
+        return nothing(out);
+    }
+    let numbers = Numbers(numbers);
+    writeln!(out, "{word}{numbers}")
+}
+
+// A word and HEX, or `nothing` where there are no bytes.
+fn word_and_hex<W: Write>(out: &mut W, word: &str, bytes: &[u8]) -> io::Result<()> {
+    if bytes.is_empty() {
+        return nothing(out);
+    }
+    out.write_all(word.as_bytes())?;
+    hex(out, bytes)?;
+    out.write_all(b"\n")
+}
+
+// Stays: two words of the format.
+fn nothing<W: Write>(out: &mut W) -> io::Result<()> {
+    out.write_all(b"nothing\n")
+}
+
+fn none<W: Write>(out: &mut W) -> io::Result<()> {
+    out.write_all(b"none\n")
+}
+
+pub(crate) fn refused<W: Write>(out: &mut W, refusal: Refusal) -> io::Result<()> {
+    writeln!(out, "refused {}", refusal.number())
+}
+
+pub(crate) fn media<W: Write>(out: &mut W, answer: Result<Media, Refusal>) -> io::Result<()> {
     match answer {
-        MediaAnswer::Queued => word(r, record::QUEUED),
-        MediaAnswer::Dropped => word(r, record::DROPPED),
-        MediaAnswer::Refused(number) => refused(r, number),
+        Ok(Media::Queued) => out.write_all(b"queued\n"),
+        Ok(Media::Dropped) => out.write_all(b"dropped\n"),
+        Err(refusal) => refused(out, refusal),
     }
 }
 
-// The refusal of the whole, or how many answers there are.
-pub(crate) fn burst(r: &mut Record, refusal: u64, answers: usize) {
-    if refusal == 0 {
-        list(r, record::ANSWERS, record::OCTETS, answers);
-    } else {
-        refused(r, refusal);
-    }
-}
-
-pub(crate) fn repair(r: &mut Record, answer: RepairAnswer) {
+// Stays: two words of the format, of lists of two types.
+pub(crate) fn burst<W: Write>(
+    out: &mut W,
+    answer: Result<usize, Refusal>,
+    answers: &[u8],
+) -> io::Result<()> {
     match answer {
-        RepairAnswer::Recovered => word(r, record::RECOVERED),
-        RepairAnswer::Redundant => word(r, record::REDUNDANT),
-        RepairAnswer::TooLate => word(r, record::TOO_LATE),
-        RepairAnswer::Refused(number) => refused(r, number),
+        Ok(count) => list(out, "answers", &answers[..count.min(answers.len())]),
+        Err(refusal) => refused(out, refusal),
     }
 }
 
-fn or_missing(o: Opt) -> u64 {
-    match o {
-        Opt::None => record::MISSING,
-        Opt::Some(n) => n,
-    }
-}
-
-fn flag(set: bool) -> u64 {
-    if set { 1 } else { 0 }
-}
-
-fn packet(r: &mut Record, p: HandedOut) {
-    let arrival = p.received_at;
-    r[WORD] = record::PACKET;
-    r[COUNT] = 7;
-    r[TAIL] = record::HEX;
-    r[SIZE] = p.size as u64;
-    r[FIRST] = p.pt as u64;
-    r[FIRST + 1] = p.sequence_number.0 as u64;
-    r[FIRST + 2] = p.timestamp.0 as u64;
-    r[FIRST + 3] = p.ssrc.0 as u64;
-    r[FIRST + 4] = flag(p.marker);
-    r[FIRST + 5] = or_missing(arrival);
-    r[FIRST + 6] = p.delay;
-}
-
-pub(crate) fn poll(r: &mut Record, answer: PollAnswer) {
+pub(crate) fn repair<W: Write>(out: &mut W, answer: Result<Fate, Refusal>) -> io::Result<()> {
     match answer {
-        PollAnswer::Nothing => word(r, record::NOTHING),
-        PollAnswer::Packet(p) => packet(r, p),
-        PollAnswer::Refused(number) => refused(r, number),
+        Ok(Fate::Recovered) => out.write_all(b"recovered\n"),
+        Ok(Fate::Redundant) => out.write_all(b"redundant\n"),
+        Ok(Fate::TooLate) => out.write_all(b"too late\n"),
+        Err(refusal) => refused(out, refusal),
     }
 }
 
-pub(crate) fn poll_nack(r: &mut Record, answer: NackAnswer) {
-    match answer {
-        NackAnswer::Nothing => word(r, record::NOTHING),
-        NackAnswer::Numbers(count) => list(r, record::NACK, record::NUMBERS, count),
-        NackAnswer::Refused(number) => refused(r, number),
-    }
+fn packet<W: Write>(out: &mut W, p: HandedOut, octets: &[u8]) -> io::Result<()> {
+    let (pt, number, timestamp, ssrc) = (p.pt, p.sequence_number.0, p.timestamp.0, p.ssrc.0);
+    let marker = u8::from(p.marker);
+    let arrival = OrDash(p.received_at);
+    let delay = p.delay;
+    write!(
+        out,
+        "packet {pt} {number} {timestamp} {ssrc} {marker} {arrival} {delay}"
+    )?;
+    hex(out, &octets[..p.size.min(octets.len())])?;
+    out.write_all(b"\n")
 }
 
-pub(crate) fn nack_wire(r: &mut Record, answer: WireAnswer) {
-    match answer {
-        WireAnswer::Bytes(size) => list(r, record::WIRE, record::HEX, size),
-        WireAnswer::Refused(number) => refused(r, number),
-    }
-}
-
-pub(crate) fn read_nacks(r: &mut Record, answer: ReadAnswer) {
-    match answer {
-        ReadAnswer::Numbers(count) => list(r, record::NUMBERS_READ, record::NUMBERS, count),
-        ReadAnswer::Refused(number) => refused(r, number),
-    }
-}
-
-fn after(r: &mut Record, o: Opt) {
-    match o {
-        Opt::None => word(r, record::NONE),
-        Opt::Some(n) => one(r, record::AFTER, n),
-    }
-}
-
-pub(crate) fn timeout(r: &mut Record, answer: TimeoutAnswer) {
-    match answer {
-        TimeoutAnswer::Timeout(o) => after(r, o),
-        TimeoutAnswer::Refused(number) => refused(r, number),
-    }
-}
-
-fn figures(r: &mut Record, s: RtpInboundRtxStats) {
-    let rtt = s.rtt;
-    r[WORD] = record::RTX;
-    r[COUNT] = 5;
-    r[TAIL] = record::NO_TAIL;
-    r[FIRST] = s.packets_received_in_time;
-    r[FIRST + 1] = s.packets_received_too_late;
-    r[FIRST + 2] = s.packets_received_redundant;
-    r[FIRST + 3] = s.bytes_received;
-    r[FIRST + 4] = or_missing(rtt);
-}
-
-fn opt_figures(r: &mut Record, o: OptRtxStats) {
-    match o {
-        OptRtxStats::None => word(r, record::NONE),
-        OptRtxStats::Some(s) => figures(r, s),
-    }
-}
-
-pub(crate) fn rtx_stats(r: &mut Record, answer: StatsAnswer) {
-    match answer {
-        StatsAnswer::Stats(o) => opt_figures(r, o),
-        StatsAnswer::Refused(number) => refused(r, number),
-    }
-}
-
-pub(crate) fn highest(r: &mut Record, answer: HighestAnswer) {
-    match answer {
-        HighestAnswer::None => word(r, record::NONE),
-        HighestAnswer::Number(n) => one(r, record::HIGHEST, n.0),
-        HighestAnswer::Refused(number) => refused(r, number),
-    }
-}
-
-fn settings(r: &mut Record, s: Settings) {
-    let mode = s.mode;
-    let dynamic = mode.dynamic();
-    r[WORD] = record::SETTINGS;
-    r[COUNT] = 11;
-    r[TAIL] = record::NO_TAIL;
-    r[FIRST] = mode.number() as u64;
-    r[FIRST + 1] = s.clock_rate as u64;
-    r[FIRST + 2] = s.max_entries as u64;
-    r[FIRST + 3] = s.max_gaps as u64;
-    r[FIRST + 4] = s.delay;
-    r[FIRST + 5] = s.initial_nack_delay;
-    r[FIRST + 6] = s.default_nack_resend_delay;
-    r[FIRST + 7] = s.max_nack_attempts as u64;
-    r[FIRST + 8] = dynamic.min;
-    r[FIRST + 9] = dynamic.max;
-    r[FIRST + 10] = dynamic.target_recovery;
-}
-
-pub(crate) fn read_settings(r: &mut Record, answer: ReadSettings) {
-    match answer {
-        ReadSettings::Settings(s) => settings(r, s),
-        ReadSettings::Refused(number) => refused(r, number),
-    }
-}
-
-pub(crate) fn write_settings(r: &mut Record, answer: WroteSettings) {
-    match answer {
-        WroteSettings::Bytes(size) => list(r, record::SETTINGS_LINE, record::HEX, size),
-        WroteSettings::Refused(number) => refused(r, number),
-    }
-}
-
-// ---- the line
-
-fn tail(out: &mut [u8], at: usize, r: &Record, octets: &[u8], numbers: &[u16]) -> usize {
-    let size = r[SIZE] as usize;
-    match r[TAIL] {
-        record::HEX => put::hex(out, at, octets, size),
-        record::NUMBERS => put::numbers(out, at, numbers, size),
-        record::OCTETS => put::octets(out, at, octets, size),
-        _ => at,
-    }
-}
-
-// Puts the line of the record's answer into the output; the place behind it.
-pub(crate) fn write(
-    out: &mut [u8],
-    at: usize,
-    r: &Record,
+pub(crate) fn poll<W: Write>(
+    out: &mut W,
+    answer: Result<Option<HandedOut>, Refusal>,
     octets: &[u8],
-    numbers: &[u16],
-) -> usize {
-    if r[WORD] == record::NO_ANSWER {
-        return at;
+) -> io::Result<()> {
+    match answer {
+        Ok(None) => nothing(out),
+        Ok(Some(p)) => packet(out, p, octets),
+        Err(refusal) => refused(out, refusal),
     }
-    let a = put::word(out, at, r[WORD]);
-    let b = put::record(out, a, r);
-    let c = tail(out, b, r, octets, numbers);
-    put::end(out, c)
+}
+
+pub(crate) fn poll_nack<W: Write>(
+    out: &mut W,
+    answer: Result<Option<usize>, Refusal>,
+    numbers: &[u16],
+) -> io::Result<()> {
+    match answer {
+        Ok(None) => nothing(out),
+        Ok(Some(count)) => list(out, "nack", &numbers[..count.min(numbers.len())]),
+        Err(refusal) => refused(out, refusal),
+    }
+}
+
+// Stays: two words of the format.
+pub(crate) fn nack_wire<W: Write>(
+    out: &mut W,
+    answer: Result<usize, Refusal>,
+    octets: &[u8],
+) -> io::Result<()> {
+    match answer {
+        Ok(size) => word_and_hex(out, "wire", &octets[..size.min(octets.len())]),
+        Err(refusal) => refused(out, refusal),
+    }
+}
+
+pub(crate) fn read_nacks<W: Write>(
+    out: &mut W,
+    answer: Result<usize, Refusal>,
+    numbers: &[u16],
+) -> io::Result<()> {
+    match answer {
+        Ok(count) => list(out, "numbers", &numbers[..count.min(numbers.len())]),
+        Err(refusal) => refused(out, refusal),
+    }
+}
+
+pub(crate) fn timeout<W: Write>(
+    out: &mut W,
+    answer: Result<Option<u64>, Refusal>,
+) -> io::Result<()> {
+    match answer {
+        Ok(None) => none(out),
+        Ok(Some(n)) => writeln!(out, "after {n}"),
+        Err(refusal) => refused(out, refusal),
+    }
+}
+
+fn figures<W: Write>(out: &mut W, s: RtpInboundRtxStats) -> io::Result<()> {
+    let (in_time, too_late) = (s.packets_received_in_time, s.packets_received_too_late);
+    let (redundant, bytes) = (s.packets_received_redundant, s.bytes_received);
+    let rtt = OrDash(s.rtt);
+    writeln!(out, "rtx {in_time} {too_late} {redundant} {bytes} {rtt}")
+}
+
+pub(crate) fn rtx_stats<W: Write>(
+    out: &mut W,
+    answer: Result<Option<RtpInboundRtxStats>, Refusal>,
+) -> io::Result<()> {
+    match answer {
+        Ok(None) => none(out),
+        Ok(Some(s)) => figures(out, s),
+        Err(refusal) => refused(out, refusal),
+    }
+}
+
+pub(crate) fn highest<W: Write>(
+    out: &mut W,
+    answer: Result<Option<ExtendedSequenceNumber>, Refusal>,
+) -> io::Result<()> {
+    match answer {
+        Ok(None) => none(out),
+        Ok(Some(n)) => writeln!(out, "highest {}", n.0),
+        Err(refusal) => refused(out, refusal),
+    }
+}
+
+fn settings<W: Write>(out: &mut W, s: Settings) -> io::Result<()> {
+    let (mode, clock_rate, depth, gaps) = (
+        s.mode.number(),
+        s.clock_rate,
+        s.max_entries,
+        s.max_gaps,
+    );
+    let (delay, initial) = (s.delay, s.initial_nack_delay);
+    let (resend, attempts) = (s.default_nack_resend_delay, s.max_nack_attempts);
+    let dynamic = s.mode.dynamic();
+    let (min, max, target) = (dynamic.min, dynamic.max, dynamic.target_recovery);
+    write!(
+        out,
+        "settings {mode} {clock_rate} {depth} {gaps} {delay} {initial}"
+    )?;
+    writeln!(out, " {resend} {attempts} {min} {max} {target}")
+}
+
+pub(crate) fn read_settings<W: Write>(
+    out: &mut W,
+    answer: Result<Settings, Refusal>,
+) -> io::Result<()> {
+    match answer {
+        Ok(s) => settings(out, s),
+        Err(refusal) => refused(out, refusal),
+    }
+}
+
+pub(crate) fn write_settings<W: Write>(
+    out: &mut W,
+    answer: Result<usize, Refusal>,
+    octets: &[u8],
+) -> io::Result<()> {
+    match answer {
+        Ok(size) => word_and_hex(out, "line", &octets[..size.min(octets.len())]),
+        Err(refusal) => refused(out, refusal),
+    }
 }

@@ -1,175 +1,212 @@
-// A line read into a call and its record (docs/TRACE.md, "Lines" and "Calls").
-use crate::field;
-use crate::field::Found;
-use crate::input::{Input, LINE};
-use crate::record::{COUNT, FIRST, OPEN, PLACES, Record, SIZE};
+// A line read into a call (docs/TRACE.md, "Lines" and "Calls").
+use crate::field::{Fields, ReadError};
+use crate::input::LINE;
+use crate::{field, opening};
+use config::Settings;
+use model::Config;
+use std::alloc::{AllocError, Global};
 
-// What a line is. The numbers of a call stand in the record; the bytes of its HEX at the front of the line, their count in the record.
 #[derive(Clone, Copy)]
-pub enum Call {
-    PassedOver,
-    Unreadable,
-    NoSession,
-    Open,
-    Media,
-    Burst,
-    Repair,
-    Poll,
-    PollNack,
-    NackWire,
-    ReadNacks,
-    TimeoutReceive,
-    TimeoutNack,
+pub enum Call<'a> {
+    // None where a number does not fit its type.
+    Open(Option<Config>),
+    ReadNacks {
+        places: u64,
+        entries: &'a [u8],
+    },
+    ReadSettings(&'a [u8]),
+    WriteSettings {
+        places: u64,
+        settings: Option<Settings>,
+    },
+    OfSession(SessionCall<'a>),
+}
+
+// A call that needs a session.
+#[derive(Clone, Copy)]
+pub enum SessionCall<'a> {
+    Media {
+        now: u64,
+        datagram: &'a [u8],
+    },
+    Burst {
+        now: u64,
+        places: u64,
+        buffer: &'a [u8],
+        ends: &'a [u64],
+    },
+    Repair {
+        now: u64,
+        datagram: &'a [u8],
+    },
+    Poll {
+        now: u64,
+    },
+    PollNack {
+        now: u64,
+    },
+    NackWire {
+        now: u64,
+        places: u64,
+    },
+    TimeoutReceive {
+        now: u64,
+    },
+    TimeoutNack {
+        now: u64,
+    },
     RtxStats,
     Highest,
     State,
-    ReadSettings,
-    WriteSettings,
 }
 
-fn word_with_now(s: &[u8]) -> Call {
-    match s {
-        b"media" => Call::Media,
-        b"burst" => Call::Burst,
-        b"repair" => Call::Repair,
-        b"poll" => Call::Poll,
-        b"poll_nack" => Call::PollNack,
-        b"nack_wire" => Call::NackWire,
-        b"timeout_receive" => Call::TimeoutReceive,
-        b"timeout_nack" => Call::TimeoutNack,
-        _ => Call::Unreadable,
+// What a call's HEX and its list of ends are read into, kept from line to line.
+#[derive(Drop)]
+pub struct Lent {
+    pub bytes: Vec<u8>,
+    pub ends: Vec<u64>,
+}
+
+impl Lent {
+    // Room for what the longest line can have.
+    pub(crate) fn new(alloc: Global) -> Result<Self, AllocError> {
+        Ok(Lent {
+            bytes: Vec::with_capacity(alloc, LINE / 2)?,
+            ends: Vec::with_capacity(alloc, LINE / 2)?,
+        })
     }
 }
 
-// Of the calls that need no session.
-fn word_apart(s: &[u8]) -> Call {
-    match s {
-        b"read_nacks" => Call::ReadNacks,
-        b"read_settings" => Call::ReadSettings,
-        b"write_settings" => Call::WriteSettings,
-        _ => word_with_now(s),
-    }
+// Numbers that are all the fields.
+fn only<const N: usize>(mut fields: Fields<'_>) -> Result<[u64; N], ReadError> {
+    let numbers = fields.numbers()?;
+    fields.end()?;
+    Ok(numbers)
 }
 
-fn word(s: &[u8]) -> Call {
-    match s {
-        b"open" => Call::Open,
-        b"rtx_stats" => Call::RtxStats,
-        b"highest" => Call::Highest,
-        b"state" => Call::State,
-        _ => word_apart(s),
-    }
+// NOW, where that is the only field.
+fn now(fields: Fields<'_>) -> Result<u64, ReadError> {
+    let [now] = only::<1>(fields)?;
+    Ok(now)
 }
 
-// The place in the record behind the numbers of a call, before HEX where it has that; the last, where that hangs on the first number.
-fn behind_numbers(call: Call) -> usize {
-    match call {
-        Call::Open => FIRST + 16,
-        Call::Burst | Call::NackWire => FIRST + 2,
-        Call::WriteSettings => FIRST + 12,
-        Call::PassedOver | Call::Unreadable | Call::NoSession => FIRST,
-        Call::RtxStats | Call::Highest | Call::State | Call::ReadSettings => FIRST,
-        _ => FIRST + 1,
-    }
-}
-
-fn has_hex(call: Call) -> bool {
-    match call {
-        Call::Media | Call::Burst | Call::Repair | Call::ReadNacks | Call::ReadSettings => true,
-        _ => false,
-    }
-}
-
-// The place up to which numbers may stand behind HEX: the ends of a burst.
-fn last_behind(call: Call, first: usize) -> usize {
-    match call {
-        Call::Burst => PLACES,
-        _ => first,
-    }
-}
-
-// Whether the line from the place `at` on is HEX and the numbers behind it, from the place `first` of the record on.
-fn is_hex(call: Call, line: &mut [u8], at: usize, r: &mut Record, first: usize) -> bool {
-    let Found::Number(size, to) = field::hex(line, at) else {
-        return false;
-    };
-    r[SIZE] = size;
-    let Found::Number(next, behind) = field::numbers(line, to, r, first, last_behind(call, first))
-    else {
-        return false;
-    };
-    r[COUNT] = next;
-    behind == line.len()
+// A number and HEX that are all the fields.
+fn with_hex<'a>(
+    mut fields: Fields<'_>,
+    bytes: &'a mut Vec<u8>,
+) -> Result<(u64, &'a [u8]), ReadError> {
+    let n = fields.number()?;
+    let read = fields.hex(bytes)?;
+    fields.end()?;
+    Ok((n, read))
 }
 
 // An `open` has three numbers more in mode 2 than in any other.
-fn open_behind(mode: u64) -> usize {
-    if mode == 2 { FIRST + 16 } else { FIRST + 13 }
-}
-
-// Whether a call has all its numbers.
-fn is_complete(call: Call, next: u64, mode: u64) -> bool {
-    match call {
-        Call::Open => next as usize == open_behind(mode),
-        _ => next as usize == behind_numbers(call),
-    }
-}
-
-// Whether the line from the place `at` on is the call's fields: they are put where they belong.
-fn are_fields(call: Call, line: &mut [u8], at: usize, r: &mut Record) -> bool {
-    let last = behind_numbers(call);
-    let Found::Number(next, to) = field::numbers(line, at, r, FIRST, last) else {
-        return false;
+fn open(mut fields: Fields<'_>) -> Result<Option<Config>, ReadError> {
+    let settings = fields.numbers::<8>()?;
+    let senders = fields.numbers::<5>()?;
+    let dynamic = if settings[0] == 2 {
+        fields.numbers::<3>()?
+    } else {
+        [0; 3]
     };
-    if !is_complete(call, next, r[FIRST]) {
-        return false;
-    }
-    if has_hex(call) {
-        return is_hex(call, line, to, r, last);
-    }
-    to == line.len()
+    fields.end()?;
+    Ok(opening::config(settings, senders, dynamic))
 }
 
-// A call that was read, where the session that it needs is open.
-fn with_session(call: Call, open: u64) -> Call {
-    if open == 1 {
-        return call;
-    }
-    match call {
-        Call::Open | Call::Unreadable | Call::ReadNacks => call,
-        Call::ReadSettings | Call::WriteSettings => call,
-        _ => Call::NoSession,
+fn burst<'a>(mut fields: Fields<'_>, lent: &'a mut Lent) -> Result<SessionCall<'a>, ReadError> {
+    let [now, places] = fields.numbers::<2>()?;
+    let buffer = fields.hex(&mut lent.bytes)?;
+    let ends = fields.list(&mut lent.ends)?;
+    Ok(SessionCall::Burst {
+        now,
+        places,
+        buffer,
+        ends,
+    })
+}
+
+fn read_nacks<'a>(fields: Fields<'_>, bytes: &'a mut Vec<u8>) -> Result<Call<'a>, ReadError> {
+    let (places, entries) = with_hex(fields, bytes)?;
+    Ok(Call::ReadNacks { places, entries })
+}
+
+fn read_settings<'a>(
+    mut fields: Fields<'_>,
+    bytes: &'a mut Vec<u8>,
+) -> Result<Call<'a>, ReadError> {
+    let line = fields.hex(bytes)?;
+    fields.end()?;
+    Ok(Call::ReadSettings(line))
+}
+
+fn write_settings<'a>(mut fields: Fields<'_>) -> Result<Call<'a>, ReadError> {
+    let places = fields.number()?;
+    let settings = fields.numbers::<8>()?;
+    let dynamic = only(fields)?;
+    let settings = opening::line_settings(settings, dynamic);
+    Ok(Call::WriteSettings { places, settings })
+}
+
+// A call that brings a datagram.
+fn bringing<'a>(
+    word: &str,
+    fields: Fields<'_>,
+    bytes: &'a mut Vec<u8>,
+) -> Result<SessionCall<'a>, ReadError> {
+    let (now, datagram) = with_hex(fields, bytes)?;
+    match word {
+        "media" => Ok(SessionCall::Media { now, datagram }),
+        "repair" => Ok(SessionCall::Repair { now, datagram }),
+        _ => Err(ReadError::Unreadable),
     }
 }
 
-fn read_line(line: &mut [u8], r: &mut Record) -> Call {
-    if line.len() == 0 {
-        return Call::PassedOver;
+// A call of a session that has no field, or NOW alone, or NOW and PLACES.
+fn asking<'a>(word: &str, fields: Fields<'_>) -> Result<SessionCall<'a>, ReadError> {
+    match word {
+        "poll" => Ok(SessionCall::Poll { now: now(fields)? }),
+        "poll_nack" => Ok(SessionCall::PollNack { now: now(fields)? }),
+        "timeout_receive" => Ok(SessionCall::TimeoutReceive { now: now(fields)? }),
+        "timeout_nack" => Ok(SessionCall::TimeoutNack { now: now(fields)? }),
+        "nack_wire" => {
+            let [now, places] = only::<2>(fields)?;
+            Ok(SessionCall::NackWire { now, places })
+        }
+        _ => bare(word, fields),
     }
-    if line[0] == b'#' {
-        return Call::PassedOver;
-    }
-    if LINE <= line.len() {
-        return Call::Unreadable;
-    }
-    let end = field::end(line, 0);
-    let call = word(&line[0..end]);
-    if are_fields(call, line, end, r) {
-        return with_session(call, r[OPEN]);
-    }
-    Call::Unreadable
 }
 
-// The line that was gathered; one that is not whole yet is passed over.
-pub(crate) fn read(gathered: &mut [u8], input: Input, r: &mut Record) -> Call {
-    let n = input.n;
-    r[COUNT] = 0;
-    r[SIZE] = 0;
-    if gathered.len() < n {
-        return Call::PassedOver;
+fn bare<'a>(word: &str, fields: Fields<'_>) -> Result<SessionCall<'a>, ReadError> {
+    fields.end()?;
+    match word {
+        "rtx_stats" => Ok(SessionCall::RtxStats),
+        "highest" => Ok(SessionCall::Highest),
+        "state" => Ok(SessionCall::State),
+        _ => Err(ReadError::Unreadable),
     }
-    if input.whole {
-        return read_line(&mut gathered[0..n], r);
+}
+
+fn of_session<'a>(
+    word: &str,
+    fields: Fields<'_>,
+    lent: &'a mut Lent,
+) -> Result<SessionCall<'a>, ReadError> {
+    match word {
+        "media" | "repair" => bringing(word, fields, &mut lent.bytes),
+        "burst" => burst(fields, lent),
+        _ => asking(word, fields),
     }
-    Call::PassedOver
+}
+
+// The call that a line is.
+pub(crate) fn read<'a>(line: &[u8], lent: &'a mut Lent) -> Result<Call<'a>, ReadError> {
+    let (word, fields) = field::split(line);
+    match str::from_utf8(word).or(Err(ReadError::Unreadable))? {
+        "open" => Ok(Call::Open(open(fields)?)),
+        "read_nacks" => read_nacks(fields, &mut lent.bytes),
+        "read_settings" => read_settings(fields, &mut lent.bytes),
+        "write_settings" => write_settings(fields),
+        word => Ok(Call::OfSession(of_session(word, fields, lent)?)),
+    }
 }

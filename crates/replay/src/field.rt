@@ -1,128 +1,109 @@
-// Fields of a line (docs/TRACE.md, "Lines"). A field begins behind the blank at a place, and ends before the next blank or with the line.
-ghost use Rattle.std.specs.Prelude.{◌+◌, ◌*◌, ◌≤◌, length};
+// Fields of a line (docs/TRACE.md, "Lines").
+ghost use Rattle.std.specs.Prelude.{◌≡◌, ◌≢◌, ℕ, ◌≤◌, ◌<◌, length, slice_index};
+ghost use Rattle.std.specs.Iterator.{at_most};
 
-use crate::record::{PLACES, Record};
-use crate::scan;
-use rtp::opt::Opt;
+use memchr::memchr;
+use std::alloc::AllocError;
 
-// A number, and the place behind its field.
-#[derive(Clone, Copy)]
-pub enum Found {
-    None,
-    Number(u64, usize),
+#[derive(Clone, Copy, Debug, PartialEq, Eq)]
+pub enum ReadError {
+    // The line is no call.
+    Unreadable,
+    OutOfMemory,
 }
 
-// The place of the first blank at or after `from`, or the length.
-pub(crate) fn end(line: &[u8], from: usize) -> usize
-    requires { from ≤ length line.now }
-    ensures { (from ≤ result) × (result ≤ length line.now) }
+impl From<AllocError> for ReadError {
+    fn from(_: AllocError) -> Self {
+        ReadError::OutOfMemory
+    }
+}
+
+// What is left of a line: fields, each behind a blank.
+#[derive(Drop)]
+pub struct Fields<'a>(&'a [u8]);
+
+// The place of the first blank, or the length.
+// Stays: the last field ends with the line, so no place is missing.
+fn field_end(line: &[u8]) -> usize
+    ensures within { result ≤ length line.now }
+    ensures before { (k : ℕ) → k < result → slice_index line.now k ≢ 32 }
+    ensures found { result < length line.now → slice_index line.now result ≡ 32 }
 {
-    scan::find(line, from, line.len(), b' ')
+    memchr(b' ', line).unwrap_or(line.len())
 }
 
-// The number whose field begins behind the blank at `at`.
-fn number(line: &[u8], at: usize) -> Found {
-    if line.len() <= at {
-        return Found::None;
+// The word that a line begins with, and the fields behind it.
+pub(crate) fn split(line: &[u8]) -> (&[u8], Fields<'_>) {
+    let end = field_end(line);
+    (&line[..end], Fields(&line[end..]))
+}
+
+fn number(field: &[u8]) -> Result<u64, ReadError> {
+    columns::number(field).ok_or(ReadError::Unreadable)
+}
+
+impl<'a> Iterator for Fields<'a> {
+    type Item = &'a [u8];
+
+    ghost remaining = { λ s. at_most (length s.0.now) };
+
+    fn next(&mut self) -> Option<&'a [u8]> {
+        let (_, behind) = self.0.split_first()?;
+        let end = field_end(behind);
+        self.0 = &behind[end..];
+        Some(&behind[..end])
     }
-    let first = at + 1;
-    let to = end(line, first);
-    let Opt::Some(n) = columns::number(&line[first..to]) else {
-        return Found::None;
-    };
-    Found::Number(n, to)
 }
 
-// Numbers, put into the places from `first` up to `last`, as far as the line has fields. The place of the next one, and the place behind
-// them in the line; none where a field is no number.
-pub(crate) fn numbers(line: &[u8], at: usize, r: &mut Record, first: usize, last: usize) -> Found {
-    let mut from = at;
-    let mut i = first;
-    while i < last {
-        if line.len() <= from {
-            return Found::Number(i as u64, from);
+impl Fields<'_> {
+    fn field(&mut self) -> Result<&[u8], ReadError> {
+        self.next().ok_or(ReadError::Unreadable)
+    }
+
+    pub(crate) fn number(&mut self) -> Result<u64, ReadError> {
+        number(self.field()?)
+    }
+
+    pub(crate) fn numbers<const N: usize>(&mut self) -> Result<[u64; N], ReadError> {
+        let mut numbers = [0; N];
+        for n in &mut numbers {
+            *n = self.number()?;
         }
-        if PLACES <= i {
-            return Found::None;
+        Ok(numbers)
+    }
+
+    // Puts the bytes of a field that is HEX into `bytes`.
+    pub(crate) fn hex<'b>(&mut self, bytes: &'b mut Vec<u8>) -> Result<&'b [u8], ReadError> {
+        let digits = self.field()?;
+        bytes.clear();
+        if digits == b"-".as_slice() {
+            return Ok(bytes);
         }
-        let Found::Number(n, to) = number(line, from) else {
-            return Found::None;
-        };
-        r[i] = n;
-        from = to;
-        i += 1;
-    }
-    Found::Number(i as u64, from)
-}
-
-// The value of a hexadecimal digit, or 16.
-fn nibble(b: u8) -> u8 {
-    if b < 48 {
-        return 16;
-    }
-    if b <= 57 {
-        return b - 48;
-    }
-    if b < 97 {
-        return 16;
-    }
-    if b <= 102 {
-        return b - 87;
-    }
-    16
-}
-
-// The byte that two digits are, or 256.
-fn octet(high: u8, low: u8) -> u16 {
-    let h = nibble(high);
-    let l = nibble(low);
-    if h < 16 {
-        if l < 16 {
-            return 16 * (h as u16) + (l as u16);
+        if digits.is_empty() || digits.iter().any(u8::is_ascii_uppercase) {
+            return Err(ReadError::Unreadable);
+        }
+        bytes.resize(digits.len() / 2, 0)?;
+        match hex::decode_to_slice(digits, bytes) {
+            Ok(()) => Ok(bytes),
+            Err(_) => Err(ReadError::Unreadable),
         }
     }
-    256
-}
 
-// Puts the byte of each two digits from `first` on at the front of the line: it overtakes no digit that is still to be read. False where
-// they are no digits.
-fn decode(line: &mut [u8], first: usize, size: usize) -> bool
-    requires { first + 2 * size ≤ length line.old }
-{
-    let mut i = 0;
-    while i < size {
-        let b = octet(line[first + 2 * i], line[first + 2 * i + 1]);
-        if 255 < b {
-            return false;
+    // Puts the numbers that the fields left are into `list`.
+    pub(crate) fn list<'b>(self, list: &'b mut Vec<u64>) -> Result<&'b [u64], ReadError> {
+        list.clear();
+        for field in self {
+            list.push(number(field)?).map_err(AllocError::from)?;
         }
-        line[i] = b as u8;
-        i += 1;
+        Ok(list)
     }
-    true
-}
 
-// Whether a field is a dash alone.
-fn is_dash(field: &[u8]) -> bool {
-    field == b"-".as_slice()
-}
-
-// The field behind the blank at `at` as HEX. Its bytes go to the front of the line; how many they are, and the place behind the field.
-pub(crate) fn hex(line: &mut [u8], at: usize) -> Found {
-    if line.len() <= at {
-        return Found::None;
+    // That no field is left.
+    pub(crate) fn end(self) -> Result<(), ReadError> {
+        if self.0.is_empty() {
+            Ok(())
+        } else {
+            Err(ReadError::Unreadable)
+        }
     }
-    let first = at + 1;
-    let to = end(line, first);
-    if is_dash(&line[first..to]) {
-        return Found::Number(0, to);
-    }
-    let digits = to - first;
-    let size = digits / 2;
-    if (size == 0) | (digits % 2 == 1) {
-        return Found::None;
-    }
-    if decode(line, first, size) {
-        return Found::Number(size as u64, to);
-    }
-    Found::None
 }

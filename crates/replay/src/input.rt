@@ -1,114 +1,43 @@
-// Standard input, block by block, cut into lines. A line is gathered in a lent buffer one byte longer than the longest line that is read:
-// what fills it is too long.
-ghost use Rattle.std.specs.Prelude.{◌≤◌, length};
+// Standard input, line by line.
+use memchr::memchr;
+use std::alloc::AllocError;
+use std::io;
+use std::io::{BufRead, BufReader, Read, Write};
 
-use crate::scan;
-use std::io::{Read, Stdin};
-
-// One byte more than the longest line that is read (docs/TRACE.md, "Lines").
+// One byte more than the longest line that is read (docs/TRACE.md, "Lines"): a line that fills it is too long.
 pub const LINE: usize = 65536;
 
-pub type Line = [u8; LINE];
-
-// Input is read, and answers are written, a block at a time.
-pub type Block = [u8; 65536];
-
-// Where reading stands. The bytes of the block from `from` to `size` are still to be read. Of the line n bytes are gathered; it is whole
-// where its line feed was read. After the end of input nothing more comes.
-#[derive(Clone, Copy)]
-pub struct Input {
-    pub from: usize,
-    pub size: usize,
-    pub n: usize,
-    pub whole: bool,
-    pub more: bool,
+// Puts a part of a line behind what is there of it, as far as `LINE` goes.
+fn gather(line: &mut Vec<u8>, part: &[u8]) -> Result<(), AllocError> {
+    let room = LINE.saturating_sub(line.len());
+    let size = part.len().min(room);
+    line.extend_from_slice(&part[..size])
 }
 
-// Puts a part of a line behind its first n bytes, as far as the buffer goes. How many stand there then.
-fn gather(line: &mut [u8], n: usize, part: &[u8]) -> usize {
-    if line.len() < n {
-        return n;
-    }
-    let room = line.len() - n;
-    if part.len() <= room {
-        line[n..n + part.len()].copy_from_slice(part);
-        return n + part.len();
-    }
-    line[n..].copy_from_slice(&part[0..room]);
-    line.len()
-}
-
-// The block's bytes up to the next line feed, or all that are left.
-fn cut(block: &[u8], from: usize, size: usize, line: &mut [u8], n: usize) -> Input
-    requires { (from ≤ size) × (size ≤ length block.now) }
-{
-    let end = scan::find(block, from, size, b'\n');
-    let gathered = gather(line, n, &block[from..end]);
-    if end < size {
-        return Input {
-            from: end + 1,
-            size,
-            n: gathered,
-            whole: true,
-            more: true,
-        };
-    }
-    Input {
-        from: end,
-        size,
-        n: gathered,
-        whole: false,
-        more: true,
-    }
-}
-
-// A block of input. Its end is taken for the line feed of a last line that has none, and a read that fails for its end.
-fn read(mut stdin: Stdin, block: &mut [u8], line: &mut [u8], n: usize) -> Input {
-    let size = stdin.read(block).unwrap_or(0);
-    if size == 0 {
-        return Input {
-            from: 0,
-            size: 0,
-            n,
-            whole: true,
-            more: false,
-        };
-    }
-    cut(block, 0, size, line, n)
-}
-
-// How many bytes of the line are gathered that has not ended.
-fn begun(had: Input) -> usize {
-    if had.whole { 0 } else { had.n }
-}
-
-impl Input {
-    pub(crate) fn start() -> Self {
-        Input {
-            from: 0,
-            size: 0,
-            n: 0,
-            whole: false,
-            more: true,
+// The next line, without its line feed; false where there is none. The end of the input ends a last line that has no line feed, and a read
+// that fails is taken for that end. Answers are written before more input is waited for, for a program at the other end of a pipe.
+pub(crate) fn next_line<R: Read, W: Write>(
+    input: &mut BufReader<R>,
+    out: &mut W,
+    line: &mut Vec<u8>,
+) -> io::Result<bool> {
+    line.clear();
+    for _ in 0..u64::MAX {
+        if input.buffer().is_empty() {
+            out.flush()?;
         }
-    }
-
-    // Whether the next turn waits for input.
-    pub(crate) fn waits(self) -> bool {
-        self.size <= self.from
-    }
-
-    // One turn: to the end of the line, or as far as the block goes.
-    pub(crate) fn next(self, stdin: Stdin, block: &mut [u8], line: &mut [u8]) -> Self {
-        let from = self.from;
-        let size = self.size;
-        let n = begun(self);
-        if size <= from {
-            return read(stdin, block, line, n);
+        let block = input.fill_buf().unwrap_or(b"");
+        if block.is_empty() {
+            return Ok(!line.is_empty());
         }
-        if block.len() < size {
-            return read(stdin, block, line, n);
+        let end = memchr(b'\n', block);
+        let size = end.unwrap_or(block.len());
+        gather(line, &block[..size])?;
+        if end.is_some() {
+            input.consume(size + 1);
+            return Ok(true);
         }
-        cut(block, from, size, line, n)
+        input.consume(size);
     }
+    Ok(false)
 }

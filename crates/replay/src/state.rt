@@ -1,221 +1,134 @@
-// The lines of `state` (docs/TRACE.md, "state"). They may be more than the output holds: it is written on the way.
-use crate::{output, put};
+// The lines of `state` (docs/TRACE.md, "state").
+use crate::answer::{OrDash, hex};
+use crate::receiver::Receiver;
 use entries::{ENTRY_WORDS, Entry, PAYLOAD_BYTES};
 use lost_nacked::{REMEMBERED_WORDS, Remembered};
-use model::{LastReceived, Queue, Session};
+use model::{Counters, Queue, Received, Session};
 use packet_gaps::{GAP_WORDS, Gap};
-use rtp::opt::{Opt, OptNumber};
-use rtx_state::{OptRtt, RtxState};
+use rtx_state::RtxState;
+use std::io;
+use std::io::Write;
 
 // A NaN, which no session holds that a call left, has no bits of its own.
-fn f64_bits(out: &mut [u8], at: usize, x: f64) -> usize {
-    if x == x {
-        return put::bits(out, at, f64::to_bits(x), 16);
+
+// Stays: a trait for both would be longer than the two.
+fn f64_bits<W: Write>(out: &mut W, x: f64) -> io::Result<()> {
+    if x.is_nan() {
+        return out.write_all(b" -");
     }
-    put::text(out, at, b" -")
+    write!(out, " {:016x}", x.to_bits())
 }
 
-fn wide(x: u32) -> u64 {
-    x as u64
-}
-
-fn f32_bits(out: &mut [u8], at: usize, x: f32) -> usize {
-    if x == x {
-        return put::bits(out, at, wide(f32::to_bits(x)), 8);
+fn f32_bits<W: Write>(out: &mut W, x: f32) -> io::Result<()> {
+    if x.is_nan() {
+        return out.write_all(b" -");
     }
-    put::text(out, at, b" -")
+    write!(out, " {:08x}", x.to_bits())
 }
 
-fn figures(out: &mut [u8], at: usize, q: Queue) -> usize {
-    let jitter = q.jitter;
-    let loss = q.loss;
-    let c = q.counters;
-    let a = put::number(out, at, q.clock);
-    let b = put::four(out, a, c.received, c.bytes, c.dropped, c.lost);
-    let d = f64_bits(out, b, jitter.jitter);
-    f32_bits(out, d, loss.loss)
+fn figures<W: Write>(out: &mut W, q: &Queue) -> io::Result<()> {
+    let Counters {
+        received,
+        bytes,
+        dropped,
+        lost,
+    } = q.counters;
+    write!(out, " {} {received} {bytes} {dropped} {lost}", q.clock)?;
+    f64_bits(out, q.jitter.jitter)?;
+    f32_bits(out, q.loss.loss)
 }
 
-fn last_received(out: &mut [u8], at: usize, last: LastReceived) -> usize {
+fn last_received<W: Write>(out: &mut W, last: Option<Received>) -> io::Result<()> {
     match last {
-        LastReceived::None => put::text(out, at, b" - - -"),
-        LastReceived::Some(r) => {
-            let a = put::number(out, at, r.instant);
-            put::two(out, a, r.timestamp.0, r.number.0)
+        None => out.write_all(b" - - -"),
+        Some(r) => {
+            let (instant, timestamp, number) = (r.instant, r.timestamp.0, r.number.0);
+            write!(out, " {instant} {timestamp} {number}")
         }
     }
 }
 
-fn last_returned(out: &mut [u8], at: usize, returned: OptNumber) -> usize {
-    match returned {
-        OptNumber::None => put::text(out, at, b" -"),
-        OptNumber::Some(n) => put::number(out, at, n.0),
+fn repairs<W: Write>(out: &mut W, x: RtxState) -> io::Result<()> {
+    match x.rtt {
+        None => out.write_all(b" - -")?,
+        Some(e) => write!(out, " {} {}", e.srtt, e.variation)?,
     }
-}
-
-fn references(out: &mut [u8], at: usize, q: Queue) -> usize {
-    let last = q.last;
-    let returned = q.returned;
-    let a = last_received(out, at, last);
-    last_returned(out, a, returned)
-}
-
-fn round_trip(out: &mut [u8], at: usize, rtt: OptRtt) -> usize {
-    match rtt {
-        OptRtt::None => put::text(out, at, b" - -"),
-        OptRtt::Some(e) => put::two(out, at, e.srtt, e.variation),
-    }
-}
-
-fn repairs(out: &mut [u8], at: usize, x: RtxState) -> usize {
-    let rtt = x.rtt;
-    let a = round_trip(out, at, rtt);
-    put::four(
-        out,
-        a,
-        x.received_in_time,
-        x.received_too_late,
-        x.received_redundant,
-        x.bytes_received,
-    )
-}
-
-fn opt_repairs(out: &mut [u8], at: usize, q: Queue) -> usize {
-    let config = q.config;
-    let senders = config.senders;
-    let rtx = q.rtx;
-    if senders.has_rtx {
-        return repairs(out, at, rtx);
-    }
-    put::text(out, at, b" - - - - - -")
-}
-
-fn counts(out: &mut [u8], at: usize, s: Session) -> usize {
-    let a = put::number(out, at, s.entries as u64);
-    put::two(out, a, s.gaps as u64, s.remembered as u64)
+    let (in_time, too_late) = (x.received_in_time, x.received_too_late);
+    let (redundant, bytes) = (x.received_redundant, x.bytes_received);
+    write!(out, " {in_time} {too_late} {redundant} {bytes}")
 }
 
 // The first line.
-fn summary(out: &mut [u8], at: usize, s: Session) -> usize {
-    let a = put::text(out, at, b"state");
-    let b = figures(out, a, s.queue);
-    let c = references(out, b, s.queue);
-    let d = opt_repairs(out, c, s.queue);
-    let e = counts(out, d, s);
-    put::end(out, e)
-}
-
-fn entry_line(out: &mut [u8], at: usize, e: Entry, place: &[u8]) -> usize {
-    let arrival = e.arrival;
-    let a = put::text(out, at, b"entry");
-    let b = put::two(out, a, e.number.0, e.timestamp.0);
-    let c = put::opt(out, b, arrival);
-    let d = put::flag(out, c, e.marker);
-    let f = put::hex(out, d, place, e.size);
-    put::end(out, f)
-}
-
-fn nacked(g: Gap) -> Opt {
-    if g.nacks == 0 {
-        return Opt::None;
+fn summary<W: Write>(out: &mut W, s: &Session) -> io::Result<()> {
+    out.write_all(b"state")?;
+    let q = &s.queue;
+    figures(out, q)?;
+    last_received(out, q.last)?;
+    let returned = OrDash(q.returned.map(|n| n.0));
+    write!(out, " {returned}")?;
+    if q.config.senders.has_rtx {
+        repairs(out, q.rtx)?;
+    } else {
+        out.write_all(b" - - - - - -")?;
     }
-    Opt::Some(g.nacked_at)
+    writeln!(out, " {} {} {}", s.entries, s.gaps, s.remembered)
 }
 
-fn gap_line(out: &mut [u8], at: usize, g: Gap) -> usize {
-    let a = put::text(out, at, b"gap");
-    let b = put::two(out, a, g.number.0, g.detected);
-    let c = put::opt(out, b, nacked(g));
-    let d = put::number(out, c, g.nacks);
-    put::end(out, d)
+fn entry<W: Write>(out: &mut W, e: Entry, place: &[u8]) -> io::Result<()> {
+    let (number, timestamp, marker) = (e.number.0, e.timestamp.0, u8::from(e.marker));
+    let arrival = OrDash(e.arrival);
+    write!(out, "entry {number} {timestamp} {arrival} {marker}")?;
+    hex(out, &place[..e.size.min(place.len())])?;
+    out.write_all(b"\n")
 }
 
-fn remembered_line(out: &mut [u8], at: usize, r: Remembered) -> usize {
-    let a = put::text(out, at, b"remembered");
-    let b = put::two(out, a, r.number.0, r.nacked_at);
-    put::end(out, b)
+fn gap<W: Write>(out: &mut W, g: Gap) -> io::Result<()> {
+    let nacked = OrDash(if g.nacks == 0 {
+        None
+    } else {
+        Some(g.nacked_at)
+    });
+    writeln!(
+        out,
+        "gap {} {} {nacked} {}",
+        g.number.0, g.detected, g.nacks
+    )
 }
 
-// The record in place i of each list; none where the place is not there.
+fn remembered<W: Write>(out: &mut W, r: Remembered) -> io::Result<()> {
+    writeln!(out, "remembered {} {}", r.number.0, r.nacked_at)
+}
 
-fn entry(out: &mut [u8], at: usize, words: &[u64], payloads: &[u8], i: usize) -> usize {
-    if words.len() / ENTRY_WORDS <= i {
-        return at;
+fn entry_lines<W: Write>(out: &mut W, receiver: &Receiver) -> io::Result<()> {
+    let storage = &receiver.storage;
+    let places = storage.payloads.chunks_exact(PAYLOAD_BYTES);
+    let records = storage.entries.chunks_exact(ENTRY_WORDS).zip(places);
+    for (words, place) in records.take(receiver.session.entries) {
+        entry(out, entries::read(words, 0), place)?;
     }
-    if payloads.len() / PAYLOAD_BYTES <= i {
-        return at;
+    Ok(())
+}
+
+// Stays: one loop to a list, each with the list's own width.
+fn gap_lines<W: Write>(out: &mut W, receiver: &Receiver) -> io::Result<()> {
+    let records = receiver.storage.gaps.chunks_exact(GAP_WORDS);
+    for words in records.take(receiver.session.gaps) {
+        gap(out, packet_gaps::read(words, 0))?;
     }
-    let e = entries::read(words, i);
-    let from = PAYLOAD_BYTES * i;
-    entry_line(out, at, e, &payloads[from..])
+    Ok(())
 }
 
-fn gap(out: &mut [u8], at: usize, words: &[u64], i: usize) -> usize {
-    if words.len() / GAP_WORDS <= i {
-        return at;
+fn remembered_lines<W: Write>(out: &mut W, receiver: &Receiver) -> io::Result<()> {
+    let records = receiver.storage.remembered.chunks_exact(REMEMBERED_WORDS);
+    for words in records.take(receiver.session.remembered) {
+        remembered(out, lost_nacked::read(words, 0))?;
     }
-    gap_line(out, at, packet_gaps::read(words, i))
+    Ok(())
 }
 
-fn lost(out: &mut [u8], at: usize, words: &[u64], i: usize) -> usize {
-    if words.len() / REMEMBERED_WORDS <= i {
-        return at;
-    }
-    remembered_line(out, at, lost_nacked::read(words, i))
-}
-
-#[derive(Clone, Copy)]
-enum List {
-    Entries,
-    Gaps,
-    Remembered,
-}
-
-fn record(
-    out: &mut [u8],
-    at: usize,
-    list: List,
-    words: &[u64],
-    payloads: &[u8],
-    i: usize,
-) -> usize {
-    match list {
-        List::Entries => entry(out, at, words, payloads, i),
-        List::Gaps => gap(out, at, words, i),
-        List::Remembered => lost(out, at, words, i),
-    }
-}
-
-// The first n records of a list.
-fn records(
-    out: &mut [u8],
-    at: usize,
-    list: List,
-    words: &[u64],
-    payloads: &[u8],
-    n: usize,
-) -> usize {
-    let mut to = at;
-    let mut i = 0;
-    while i < n {
-        let roomy = output::room(out, to);
-        to = record(out, roomy, list, words, payloads, i);
-        i += 1;
-    }
-    to
-}
-
-pub(crate) fn write(
-    out: &mut [u8],
-    at: usize,
-    s: Session,
-    entries: &[u64],
-    payloads: &[u8],
-    gaps: &[u64],
-    remembered: &[u64],
-) -> usize {
-    let a = summary(out, at, s);
-    let b = records(out, a, List::Entries, entries, payloads, s.entries);
-    let c = records(out, b, List::Gaps, gaps, payloads, s.gaps);
-    records(out, c, List::Remembered, remembered, payloads, s.remembered)
+pub(crate) fn write<W: Write>(out: &mut W, receiver: &Receiver) -> io::Result<()> {
+    summary(out, &receiver.session)?;
+    entry_lines(out, receiver)?;
+    gap_lines(out, receiver)?;
+    remembered_lines(out, receiver)
 }

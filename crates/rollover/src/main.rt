@@ -4,85 +4,81 @@
 #![tactic(auto)]
 
 use rtp::{ExtendedRtpTimestamp, ExtendedSequenceNumber, RtpTimestamp, SequenceNumber};
-use std::num::{wrapping_add_u64, wrapping_sub_u64};
+use std::io::{self, BufWriter, Write};
 
-fn field(n: u64, after: u8) {
-    io::print_decimal(1, n);
-    let end = [after];
-    io::write_all(1, &end);
+// The numbers of a packet, which are cut to a width.
+trait Cut {
+    const WIDTH: u32;
+
+    // `number` cut to the width, and what the reference extends that to.
+    fn extended(reference: u64, number: u64) -> (u64, u64);
+
+    final fn cycle() -> u64 {
+        1u64.wrapping_shl(Self::WIDTH)
+    }
 }
 
-fn line(width: u64, reference: u64, number: u64, extended: u64) {
-    field(width, b' ');
-    field(reference, b' ');
-    field(number, b' ');
-    field(extended, b'\n');
+impl Cut for SequenceNumber {
+    const WIDTH: u32 = 16;
+
+    // Stays: one impl of the trait to a width.
+    fn extended(reference: u64, number: u64) -> (u64, u64) {
+        let cut = ExtendedSequenceNumber(number).truncated();
+        let extended = ExtendedSequenceNumber(reference).guess_extended(cut);
+        (u64::from(cut.0), extended.0)
+    }
 }
 
-// `number`, cut to the width, extended by the reference.
-fn figure(width: u64, reference: u64, number: u64) {
-    if width == 16 {
-        let seq = number % 65536;
-        line(
-            width,
-            reference,
-            seq,
-            ExtendedSequenceNumber(reference)
-                .guess_extended(SequenceNumber(seq as u16))
-                .0,
-        );
-    } else {
-        let timestamp = number % 4294967296;
-        line(
-            width,
-            reference,
-            timestamp,
-            ExtendedRtpTimestamp(reference)
-                .guess_extended(RtpTimestamp(timestamp as u32))
-                .0,
-        );
+impl Cut for RtpTimestamp {
+    const WIDTH: u32 = 32;
+
+    fn extended(reference: u64, number: u64) -> (u64, u64) {
+        let cut = ExtendedRtpTimestamp(number).truncated();
+        let extended = ExtendedRtpTimestamp(reference).guess_extended(cut);
+        (u64::from(cut.0), extended.0)
     }
 }
 
 // The numbers from two before to two after the reference, and those half a cycle on.
-fn numbers(width: u64, reference: u64, cycle: u64) {
-    for i in 0..5u64 {
-        figure(
-            width,
-            reference,
-            wrapping_add_u64(reference, wrapping_sub_u64(i, 2)),
-        );
+fn numbers<N: Cut>(out: &mut impl Write, reference: u64) -> io::Result<()> {
+    let opposite = reference.wrapping_add(N::cycle() / 2);
+    let near = (-2..=2).map(|step| reference.wrapping_add_signed(step));
+    let far = (-1..=1).map(|step| opposite.wrapping_add_signed(step));
+    for number in near.chain(far) {
+        let (cut, extended) = N::extended(reference, number);
+        writeln!(out, "{} {reference} {cut} {extended}", N::WIDTH)?;
     }
-    let opposite = wrapping_add_u64(reference, cycle / 2);
-    figure(width, reference, wrapping_sub_u64(opposite, 1));
-    figure(width, reference, opposite);
-    figure(width, reference, wrapping_add_u64(opposite, 1));
+    Ok(())
 }
 
 // References at the ends and at the middle of the cycle that begins at `start`.
-fn references(width: u64, start: u64, cycle: u64) {
-    let middle = wrapping_add_u64(start, cycle / 2);
-    numbers(width, start, cycle);
-    numbers(width, wrapping_add_u64(start, 1), cycle);
-    numbers(width, wrapping_sub_u64(middle, 1), cycle);
-    numbers(width, middle, cycle);
-    numbers(width, wrapping_add_u64(middle, 1), cycle);
-    numbers(
-        width,
-        wrapping_sub_u64(wrapping_add_u64(start, cycle), 1),
-        cycle,
-    );
-}
-
-fn cycles(width: u64, cycle: u64) {
-    let mut start = wrapping_sub_u64(0, cycle);
-    for i in 0..5u64 {
-        references(width, start, cycle);
-        start = wrapping_add_u64(start, cycle);
+fn references<N: Cut>(out: &mut impl Write, start: u64) -> io::Result<()> {
+    let middle = start.wrapping_add(N::cycle() / 2);
+    let last = start.wrapping_add(N::cycle()).wrapping_sub(1);
+    for reference in [
+        start,
+        start.wrapping_add(1),
+        middle.wrapping_sub(1),
+        middle,
+        middle.wrapping_add(1),
+        last,
+    ] {
+        numbers::<N>(out, reference)?;
     }
+    Ok(())
 }
 
-fn main() {
-    cycles(16, 65536);
-    cycles(32, 4294967296);
+// Cycles are counted modulo 2^64: the one before cycle 0 is the last.
+fn cycles<N: Cut>(out: &mut impl Write) -> io::Result<()> {
+    for cycle in [u64::MAX, 0, 1, 2, 3] {
+        references::<N>(out, cycle.wrapping_mul(N::cycle()))?;
+    }
+    Ok(())
+}
+
+fn main(rt: HostRuntime) -> io::Result<()> {
+    let mut out = BufWriter::new(rt.alloc(), rt.stdout())?;
+    cycles::<SequenceNumber>(&mut out)?;
+    cycles::<RtpTimestamp>(&mut out)?;
+    out.flush()
 }

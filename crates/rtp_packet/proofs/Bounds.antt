@@ -1,14 +1,13 @@
 -- Where the payload lies: between the header and the padding, where neither runs past the end.
 use mathlib.Core.Path.{◌≡◌, refl}
 use mathlib.Core.Bool.{Bool, true, false, cond, ◌&&◌, ◌||◌}
-use mathlib.Core.List.{List, []}
-use Prim.Native.Nat.{ℕ, ◌-◌, ◌≤◌}
+use mathlib.Core.List.{List, [], ◌∷◌}
+use Prim.Native.Nat.{ℕ, ◌-◌, ◌≤◌, ◌<◌}
 use native.Mathlib.Omega.{arith}
 use lib.Dec.{eqb, leb, ltb}
-use lib.ListN.{length, drop, length-take, length-drop}
-use lib.Seq.{take_all}
+use lib.ListN.{length, length-take, length-drop}
 use borrow.Author.Tests.{ltb-false}
-use Rattle.rtp_packet.specs.Header.{padding, header_length, padding_length, payload_end, between, payload_of}
+use Rattle.rtp_packet.specs.Header.{bit, padding, header_length, padding_length, payload_end, between, payload_of}
 use Rattle.rtp_packet.specs.Datagram.{wrong_padding, datagram_refusal, packet_of}
 use Rattle.rtp_packet.specs.Original.{original_payload}
 use Rattle.rtp_packet.proofs.Refused.{accepted}
@@ -20,8 +19,11 @@ between_none start end d h =
     let e : end - start ≡ 0 = omega arith in
     rw e
 
-pub between-rest : (start end : ℕ) (d : List ℕ) → length d ≤ end → between start end d ≡ drop start d
-between-rest start end d h = take_all (end - start) (drop start d) (omega (arith, length-drop start d))
+-- a datagram with the padding bit has a last byte
+pub not_empty : (d : List ℕ) → padding d ≡ true → 0 < length d
+unfolding bit
+not_empty [] h = let z : ◌≡◌ {A = ℕ} 0 1 = cc in absurd (omega arith)
+not_empty (b ∷ d) h = omega arith
 
 -- ---- the payload
 
@@ -54,3 +56,6 @@ payload-fits t s largest d e = (accepted t s largest d e).payload-fits
 pub length-original : (p : List ℕ) → length (original_payload p) ≡ length p - 2
 unfolding original_payload
 length-original p = length-drop 2 p
+
+-- what the check of `check_datagram` needs
+pub ruleset sized = (length-payload, padding-fits)

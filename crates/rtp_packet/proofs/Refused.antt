@@ -1,6 +1,6 @@
 -- The chain of `datagram_refusal`, check by check: the facts that lead to each number. Each law rewrites the tests by its facts.
 use mathlib.Core.Path.{◌≡◌, ◌∙◌}
-use mathlib.Core.Bool.{true, false, not}
+use mathlib.Core.Bool.{false, not}
 use mathlib.Core.List.{List}
 use Prim.Native.Nat.{ℕ, ◌≤◌, ◌<◌}
 use native.Mathlib.Omega.{arith}
@@ -27,21 +27,9 @@ pub record Accepted (expected_type expected_ssrc largest : ℕ) (d : List ℕ) :
   pub right_ssrc : ssrc d ≡ expected_ssrc
 
 module _ (t s largest : ℕ) (d : List ℕ) where
-  pub too_short : length d < 12 → datagram_refusal t s largest d ≡ TRUNCATED
-  unfolding datagram_refusal or_else refuse_if
-  too_short h = rw (lt-ltb _ _ h)
-
   pub wrong_version : 12 ≤ length d → (version d ≡ 2 → ⊥) → datagram_refusal t s largest d ≡ VERSION
   unfolding datagram_refusal or_else refuse_if
   wrong_version h v = rw (le-ltb _ _ h, ne_eqb _ _ v)
-
-  pub cut-header : 12 ≤ length d → version d ≡ 2 → length d < header_length d → datagram_refusal t s largest d ≡ TRUNCATED
-  unfolding datagram_refusal or_else refuse_if
-  cut-header h v l = rw (le-ltb _ _ h, eq-eqb _ _ v, lt-ltb _ _ l)
-
-  pub wrong_padding_lem : 12 ≤ length d → version d ≡ 2 → header_length d ≤ length d → wrong_padding d ≡ true → datagram_refusal t s largest d ≡ PADDING
-  unfolding datagram_refusal or_else refuse_if
-  wrong_padding_lem h v l p = rw (le-ltb _ _ h, eq-eqb _ _ v, le-ltb _ _ l, p)
 
   -- what is left of the chain then
   of_whole : Whole d → datagram_refusal t s largest d

@@ -1,10 +1,8 @@
 -- 01, the Datagram rows of "Where a call is turned back": which datagrams are refused, and the packet that each other one is.
-use Rattle.std.specs.Prelude.{Bool, cond, not, ◌&&◌, ◌||◌, List, ℕ, ◌-◌, eqb, leb, ltb, length}
+use Rattle.std.specs.Prelude.{Bool, cond, not, ◌&&◌, ◌||◌, List, ℕ, ◌-◌, eqb, leb, ltb, length, Result, Ok, Err}
 use Rattle.refusals.specs.Refusals.{TRUNCATED, VERSION, PADDING, payload_too_large, payload_type, SSRC, refuse_if, or_else}
 use Rattle.rtp_packet.specs.Header.{version, padding, marker, payload_type_of, sequence_number, timestamp, ssrc, header_length, padding_length, payload_end, payload_of}
 use Rattle.rtp_packet.specs.declared.RtpPacket.{RtpPacket}
-use Rattle.rtp_packet.specs.declared.Parsed.{Parsed}
-use Rattle.rtp_packet.specs.declared.Parsed.TheVariants.{Packet, Refused}
 
 -- how long a payload may be, and a repair's, which holds the original number too (the row of refusal 5)
 abbrev pub largest_payload : ℕ
@@ -42,8 +40,8 @@ packet_of d = record {
 }
 
 -- 01's number and values for each case of the answer
-abbrev pub packet_unless : ℕ → List ℕ → Parsed
-packet_unless refusal d = cond (eqb refusal 0) (Packet (packet_of d)) (Refused refusal)
+abbrev pub packet_unless : ℕ → List ℕ → Result RtpPacket ℕ
+packet_unless refusal d = cond (eqb refusal 0) (Ok (packet_of d)) (Err refusal)
 
-unfoldable pub parsed : ℕ → ℕ → ℕ → List ℕ → Parsed
+unfoldable pub parsed : ℕ → ℕ → ℕ → List ℕ → Result RtpPacket ℕ
 parsed expected_type expected_ssrc most_bytes d = packet_unless (datagram_refusal expected_type expected_ssrc most_bytes d) d

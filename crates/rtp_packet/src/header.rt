@@ -8,16 +8,11 @@ use rtp::{RtpTimestamp, SequenceNumber, Ssrc};
 pub(crate) fn byte_at(d: &[u8], i: usize) -> u8
     ensures { result ≡ byte d.now i }
 {
-    if i < d.len() { d[i] } else { 0 }
-}
-
-fn wide(x: u8) -> u32
-    ensures { result ≡ x }
-{
-    x as u32
+    d.get(i).copied().unwrap_or(0)
 }
 
 // The number in `width` bytes from `at` on, the most significant first.
+#[tactic(auto, using(crate::proofs::BigEndian::big_endian_next))]
 pub(crate) fn big_endian(d: &[u8], at: usize, width: usize) -> u32
     requires at_bound { at ≤ 1000 }
     requires width_bound { width ≤ 4 }
@@ -25,10 +20,8 @@ pub(crate) fn big_endian(d: &[u8], at: usize, width: usize) -> u32
     ensures upper_bound { result < 256 ^ width }
 {
     let mut number: u32 = 0;
-    let mut i = 0;
-    while i < width {
-        number = number * 256 + wide(byte_at(d, at + i));
-        i += 1;
+    for i in 0..width {
+        number = number * 256 + u32::from(byte_at(d, at + i));
     }
     number
 }
@@ -40,6 +33,7 @@ pub(crate) fn version_of(d: &[u8]) -> u8
 }
 
 // Whether the bit of weight 2^k of byte i is set.
+#[tactic(auto, unfolding(crate::specs::Header::bit))]
 fn bit_at(d: &[u8], i: usize, k: u32) -> bool
     requires { k < 8 }
     ensures { result ≡ bit i k d.now }
@@ -47,6 +41,7 @@ fn bit_at(d: &[u8], i: usize, k: u32) -> bool
     (byte_at(d, i) >> k) % 2 == 1
 }
 
+// Stays: each names its field of RFC 3550's header; what they share is `bit_at`.
 pub(crate) fn has_padding(d: &[u8]) -> bool
     ensures { result ≡ padding d.now }
 {
@@ -77,6 +72,7 @@ pub(crate) fn sequence_number(d: &[u8]) -> SequenceNumber
     SequenceNumber(big_endian(d, 2, 2) as u16)
 }
 
+// Stays: each has the type of its field; what they share is `big_endian`.
 pub(crate) fn timestamp(d: &[u8]) -> RtpTimestamp
     ensures { result.0 ≡ timestamp d.now }
 {
@@ -90,14 +86,16 @@ pub(crate) fn ssrc(d: &[u8]) -> Ssrc
 }
 
 // Past the CSRCs.
+#[tactic(auto, unfolding(crate::specs::Header::extension_start))]
 fn extension_start(d: &[u8]) -> usize
     ensures value { result ≡ extension_start d.now }
     ensures upper_bound { result ≤ 72 }
 {
-    12 + 4 * (byte_at(d, 0) % 16) as usize
+    12 + 4 * usize::from(byte_at(d, 0) % 16)
 }
 
 // Past the CSRCs and the extension.
+#[tactic(auto, unfolding(crate::specs::Header::header_length, crate::specs::Header::extension_length))]
 pub(crate) fn header_length(d: &[u8]) -> usize
     ensures { result ≡ header_length d.now }
 {
@@ -110,19 +108,20 @@ pub(crate) fn header_length(d: &[u8]) -> usize
     }
 }
 
+#[tactic(auto, using(crate::proofs::Bounds::not_empty), unfolding(crate::specs::Header::padding_length))]
 pub(crate) fn padding_length(d: &[u8]) -> usize
     ensures { result ≡ padding_length d.now }
 {
     if has_padding(d) {
-        byte_at(d, d.len() - 1) as usize
+        usize::from(byte_at(d, d.len() - 1))
     } else {
         0
     }
 }
 
+#[tactic(auto, unfolding(crate::specs::Header::payload_end))]
 pub(crate) fn payload_end(d: &[u8]) -> usize
     ensures { result ≡ payload_end d.now }
 {
-    let count = padding_length(d);
-    if count <= d.len() { d.len() - count } else { 0 }
+    d.len().saturating_sub(padding_length(d))
 }

@@ -3,6 +3,7 @@
 #![tactic(auto)]
 
 ghost use Rattle.std.specs.Prelude.{◌≡◌};
+ghost use Rattle.refusals.specs.Refusals.{refusal_of, numbered};
 ghost use Rattle.rtp_packet.specs.Header.{between};
 ghost use Rattle.rtp_packet.specs.Datagram.{largest_payload, largest_repair, wrong_padding, datagram_refusal, packet_of, parsed};
 ghost use Rattle.rtp_packet.specs.Original.{original_of, original_payload};
@@ -11,6 +12,7 @@ ghost use Rattle.rtp_packet.specs.Layout.{HeaderLayout, RepairLayout};
 
 mod header;
 
+use refusals::Refusal;
 use rtp::{RtpTimestamp, SequenceNumber, Ssrc};
 
 // The most bytes of a media packet's payload, and of a repair's, which begins with the original number.
@@ -30,71 +32,63 @@ pub struct RtpPacket {
     pub end: usize,
 }
 
-// A packet, or the number of the refusal.
-#[derive(Clone, Copy)]
-pub enum Parsed {
-    Packet(RtpPacket),
-    Refused(u64),
-}
-
 // A media packet, and a repair, for a session that expects this payload type and SSRC.
-pub fn parse_media(datagram: &[u8], pt: u8, ssrc: Ssrc) -> Parsed
-    ensures { result ≡ parsed pt ssrc.0 largest_payload datagram.now }
+// Stays: two names for two bounds; what they share is `parse`.
+pub fn parse_media(datagram: &[u8], pt: u8, ssrc: Ssrc) -> Result<RtpPacket, Refusal>
+    ensures { numbered result ≡ parsed pt ssrc.0 largest_payload datagram.now }
 {
     parse(datagram, pt, ssrc, LARGEST_PAYLOAD)
 }
 
-pub fn parse_repair(datagram: &[u8], pt: u8, ssrc: Ssrc) -> Parsed
-    ensures { result ≡ parsed pt ssrc.0 largest_repair datagram.now }
+pub fn parse_repair(datagram: &[u8], pt: u8, ssrc: Ssrc) -> Result<RtpPacket, Refusal>
+    ensures { numbered result ≡ parsed pt ssrc.0 largest_repair datagram.now }
 {
     parse(datagram, pt, ssrc, LARGEST_REPAIR)
 }
 
 // The packet in a datagram, with a payload of at most `largest` bytes.
-pub fn parse(datagram: &[u8], pt: u8, ssrc: Ssrc, largest: usize) -> Parsed
-    ensures { result ≡ parsed pt ssrc.0 largest datagram.now }
+#[tactic(auto, using(refusals::proofs::Laws::passed_on, refusals::proofs::Laws::refused_unless, refusals::proofs::Laws::accepted_unless), unfolding(crate::specs::Datagram::parsed))]
+pub fn parse(datagram: &[u8], pt: u8, ssrc: Ssrc, largest: usize) -> Result<RtpPacket, Refusal>
+    ensures { numbered result ≡ parsed pt ssrc.0 largest datagram.now }
 {
-    let refusal = datagram_refusal(datagram, pt, ssrc, largest);
-    if refusal != 0 {
-        return Parsed::Refused(refusal);
-    }
-    Parsed::Packet(packet(datagram))
+    check_datagram(datagram, pt, ssrc, largest)?;
+    Ok(packet(datagram))
 }
 
 // The Datagram rows of 01's table, downwards. Payload type and SSRC are those of the datagram's own header: a repair is rewritten only
 // after it was read.
-fn datagram_refusal(datagram: &[u8], pt: u8, ssrc: Ssrc, largest: usize) -> u64
-    ensures { result ≡ datagram_refusal pt ssrc.0 largest datagram.now }
+#[tactic(auto, using(crate::proofs::Bounds::sized), unfolding(crate::specs::Datagram::datagram_refusal, refusals::specs::Refusals::refuse_if, refusals::specs::Refusals::or_else))]
+fn check_datagram(datagram: &[u8], pt: u8, ssrc: Ssrc, largest: usize) -> Result<(), Refusal>
+    ensures { refusal_of result ≡ datagram_refusal pt ssrc.0 largest datagram.now }
 {
     if datagram.len() < 12 {
-        return refusals::TRUNCATED;
+        return Err(Refusal::Truncated);
     }
     if header::version_of(datagram) != 2 {
-        return refusals::VERSION;
+        return Err(Refusal::Version);
     }
     let start = header::header_length(datagram);
     if datagram.len() < start {
-        return refusals::TRUNCATED;
+        return Err(Refusal::Truncated);
     }
     if wrong_padding(datagram) {
-        return refusals::PADDING;
+        return Err(Refusal::Padding);
     }
     if largest < header::payload_end(datagram) - start {
-        return refusals::PAYLOAD_TOO_LARGE;
+        return Err(Refusal::PayloadTooLarge);
     }
     let own_type = header::payload_type(datagram);
     if own_type != pt {
-        return refusals::PAYLOAD_TYPE;
+        return Err(Refusal::PayloadType);
     }
     let own_ssrc = header::ssrc(datagram);
-    let sender = own_ssrc.0;
-    let expected = ssrc.0;
-    if sender != expected {
-        return refusals::SSRC;
+    if own_ssrc != ssrc {
+        return Err(Refusal::Ssrc);
     }
-    0
+    Ok(())
 }
 
+#[tactic(auto, unfolding(crate::specs::Datagram::wrong_padding))]
 fn wrong_padding(datagram: &[u8]) -> bool
     ensures { result ≡ wrong_padding datagram.now }
 {
@@ -112,6 +106,7 @@ fn wrong_padding(datagram: &[u8]) -> bool
     datagram.len() - start < count
 }
 
+#[tactic(auto, unfolding(crate::specs::Datagram::packet_of))]
 fn packet(datagram: &[u8]) -> RtpPacket
     ensures { result ≡ packet_of datagram.now }
 {
@@ -127,56 +122,41 @@ fn packet(datagram: &[u8]) -> RtpPacket
 }
 
 // The payload of a packet read from this datagram, as a part of it.
+#[tactic(auto, using(crate::proofs::Bounds::between_none))]
 pub fn payload(datagram: &[u8], packet: RtpPacket) -> &[u8]
     ensures { result.now ≡ between packet.start packet.end datagram.now }
 {
-    let start = packet.start;
-    let end = packet.end;
-    if end < start {
-        return &datagram[..0];
-    }
-    if end <= datagram.len() {
-        return &datagram[start..end];
-    }
-    if start <= datagram.len() {
-        return &datagram[start..];
-    }
-    &datagram[..0]
-}
-
-// The number that a repair's payload begins with, or that of the refusal.
-#[derive(Clone, Copy)]
-pub enum Original {
-    Number(SequenceNumber),
-    Refused(u64),
+    let end = packet.end.min(datagram.len());
+    datagram.get(packet.start..end).unwrap_or(&[])
 }
 
 // The original number of a repair: the first two bytes of its payload, high byte first.
-pub fn original_number(payload: &[u8]) -> Original
-    ensures { result ≡ original_of payload.now }
+#[tactic(auto, unfolding(crate::specs::Original::original_of, crate::specs::Original::original_refusal, refusals::specs::Refusals::refuse_if, crate::specs::Original::original_number))]
+pub fn original_number(payload: &[u8]) -> Result<SequenceNumber, Refusal>
+    ensures { numbered result ≡ original_of payload.now }
 {
     if payload.len() < 2 {
-        return Original::Refused(refusals::NO_ORIGINAL_NUMBER);
+        return Err(Refusal::NoOriginalNumber);
     }
-    Original::Number(SequenceNumber(header::big_endian(payload, 0, 2) as u16))
+    Ok(SequenceNumber(header::big_endian(payload, 0, 2) as u16))
 }
 
 // The rest of a repair's payload, also when empty.
+#[tactic(auto, unfolding(crate::specs::Original::original_payload))]
 pub fn original_payload(payload: &[u8]) -> &[u8]
     ensures { result.now ≡ original_payload payload.now }
 {
-    if payload.len() < 2 {
-        return &payload[..0];
-    }
-    &payload[2..]
+    payload.get(2..).unwrap_or(&[])
 }
 
 // Nothing is computed: what it ensures is the law that one changed bit of version, payload type or SSRC is refused.
+#[tactic(auto, using(crate::proofs::OneBit::one_bit))]
 pub fn one_bit()
     ensures { OneBit }
 {}
 
 // The same for what the reader is held to: RFC 3550's picture, as a writer lays it out, and RFC 4588's payload of a repair.
+#[tactic(auto, using(crate::proofs::Refused::accepted, crate::proofs::Written::reads_back, crate::proofs::Written::passes, crate::proofs::Taken::laid_out, crate::proofs::Taken::within))]
 pub fn header_layout()
     ensures { HeaderLayout }
 {}

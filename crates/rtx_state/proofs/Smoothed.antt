@@ -3,7 +3,7 @@ use Rattle.std.proofs.Common.{◌≡◌, ℕ, ◌+◌, ◌*◌, ◌/◌, ◌^◌
 use mathlib.Core.List.{foldl}
 use native.Mathlib.Nat.{pow-succ'}
 use Rattle.rtx_state.specs.declared.RtxRtt.{RtxRtt}
-use Rattle.rtx_state.specs.declared.OptRtt.TheVariants.{None, Some}
+use Rattle.std.specs.Prelude.{None, Some}
 use Rattle.rtx_state.specs.RoundTrip.{from_first_sample, rtt_updated, sampled_rtt, srtt_of}
 use Rattle.rtx_state.specs.Drift.{Ratio, begun, smoothed, recurrence, BOUND, Within, Tracks, Drift}
 

@@ -1,8 +1,6 @@
 -- 02, point 5: how far the stored srtt can come from the recurrence that is not cut to whole nanoseconds, after any number of samples.
-use Rattle.std.specs.Prelude.{◌≡◌, ℕ, ◌+◌, ◌*◌, ◌^◌, ◌<◌, ◌≤◌, List, [], ◌∷◌, length}
+use Rattle.std.specs.Prelude.{◌≡◌, ℕ, ◌+◌, ◌*◌, ◌^◌, ◌<◌, ◌≤◌, List, [], ◌∷◌, length, Option, None, Some}
 use mathlib.Core.List.{foldl}
-use Rattle.rtp.specs.declared.opt.Opt.{Opt}
-use Rattle.rtx_state.specs.declared.OptRtt.TheVariants.{None}
 use Rattle.rtx_state.specs.RoundTrip.{sampled_rtt, srtt_of}
 
 -- "worked as whole numbers over powers of 8": nanoseconds
@@ -32,11 +30,11 @@ pub record Within (bound srtt : ℕ) (exact : Ratio) : Type 0 where
   pub less_below : exact.numerator < (srtt + bound) * exact.denominator
 
 -- what may be shown after these samples: no figure as long as there is none, then one that keeps the bound
-unfoldable pub Tracks : Opt → List ℕ → Type 0
-Tracks Opt.None [] = Unit {0}
-Tracks Opt.None (first ∷ later) = ⊥
-Tracks (Opt.Some srtt) [] = ⊥
-Tracks (Opt.Some srtt) (first ∷ later) = Within BOUND srtt (recurrence first later)
+unfoldable pub Tracks : Option ℕ → List ℕ → Type 0
+Tracks None [] = Unit {0}
+Tracks None (first ∷ later) = ⊥
+Tracks (Some srtt) [] = ⊥
+Tracks (Some srtt) (first ∷ later) = Within BOUND srtt (recurrence first later)
 
 -- `sampled_rtt` is what the contract of the update cites.
 pub record Drift : Type 0 where

@@ -5,10 +5,9 @@ use Prim.Native.Nat.{ℕ, ◌≤◌}
 use lib.Dec.{T, leb, leb→le}
 use lib.Ieee.Fits.{and_l, and_r}
 use Rattle.durations.specs.Seconds.{largest}
-use Rattle.rtx_state.specs.declared.OptRtt.{OptRtt}
+use Rattle.rtx_state.specs.declared.RtxRtt.{RtxRtt}
+use Rattle.std.specs.Prelude.{Option, Some}
 use Rattle.rtx_state.specs.RoundTrip.{opt_rtt_in_range}
-use Rattle.model.specs.declared.LastReceived.{LastReceived}
-use Rattle.model.specs.declared.LastReceived.TheVariants.{Some}
 use Rattle.model.specs.declared.Received.{Received}
 use Rattle.config.specs.declared.NackTimings.{NackTimings}
 use Rattle.config.specs.Valid.{settings_valid}
@@ -28,10 +27,10 @@ some_in clock r t =
     let n = leb r.number.0 largest in
     (leb→le r.instant clock (and_l a (b && n) t), leb→le r.timestamp.0 largest (and_l b n (and_r a (b && n) t)))
 
-pub last_in : (clock : ℕ) (l : LastReceived) (r : Received) → l ≡ Some r → T (last_sound clock l) → (r.instant ≤ clock) × (r.timestamp.0 ≤ largest)
-last_in clock l r e t = some_in clock r (subst (λ (x : LastReceived). T (last_sound clock x)) e t)
+pub last_in : (clock : ℕ) (l : Option Received) (r : Received) → l ≡ Some r → T (last_sound clock l) → (r.instant ≤ clock) × (r.timestamp.0 ≤ largest)
+last_in clock l r e t = some_in clock r (subst (λ (x : Option Received). T (last_sound clock x)) e t)
 
-pub estimate_in_lem : (rtx : Bool) (rtt : OptRtt) → T (opt_rtt_in_range rtt) → T (opt_rtt_in_range (estimate_in rtx rtt))
+pub estimate_in_lem : (rtx : Bool) (rtt : Option RtxRtt) → T (opt_rtt_in_range rtt) → T (opt_rtt_in_range (estimate_in rtx rtt))
 unfolding estimate_in opt_rtt_in_range
 estimate_in_lem true rtt t = t
 estimate_in_lem false rtt t = tt

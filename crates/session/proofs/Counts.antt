@@ -1,12 +1,14 @@
--- Refusal 14 value by value, and refusal 12 by the step: the first value past the largest turns the call back.
-use mathlib.Core.Path.{◌≡◌, refl}
-use mathlib.Core.Bool.{Bool, true, false, cond, ◌&&◌}
+-- Refusal 14 value by value: the first value past the largest turns the call back.
+use mathlib.Core.Path.{◌≡◌, refl, sym, ◌∙◌}
+use mathlib.Core.Bool.{Bool, true, false, cond, ◌||◌}
 use mathlib.Core.List.{List, [], ◌∷◌}
-use Prim.Native.Nat.{ℕ, ◌+◌, ◌-◌, ◌≤◌, ◌<◌}
-use lib.Dec.{leb, ltb}
-use borrow.Author.Tests.{lt-ltb, le-ltb, lt-leb, le-leb}
+use Prim.Native.Nat.{ℕ, ◌≤◌, ◌<◌}
+use lib.Dec.{ltb, eqb}
+use borrow.Author.Tests.{lt-ltb, le-ltb}
 use Rattle.durations.specs.Seconds.{largest}
-use Rattle.refusals.specs.Refusals.{COUNT, gaps_full, refuse_if}
+use Rattle.refusals.specs.declared.Refusal.{Refusal}
+use Rattle.refusals.specs.Refusals.{COUNT, number, refuse_if, or_else}
+use Rattle.refusals.proofs.Laws.{or_else_second, or_else_refused}
 use Rattle.model.specs.Lists.{some?}
 use Rattle.model.specs.Table.{count_refusal}
 
@@ -22,22 +24,18 @@ pub count_past : (v : ℕ) (vs : List ℕ) → v ≤ largest → count_refusal v
 unfolding count_refusal some?
 count_past v vs h = rw (le-ltb largest v h)
 
-module _ (most opened s : ℕ) where
-  abbrev full : ℕ
-  full = refuse_if (ltb most (opened + (s - 1)) && leb 2 s) gaps_full
-
-  pub step_small : s < 2 → 0 ≡ full
-  unfolding refuse_if
-  step_small h = rw (lt-leb 2 s h) (go (ltb most (opened + (s - 1))))
+-- a value that was tested alone: it refuses the call, or leaves it to the values after it
+module _ (v : ℕ) (vs : List ℕ) where
+  by_first : count_refusal (v ∷ vs) ≡ or_else (count_refusal (v ∷ [])) (count_refusal vs)
+  unfolding count_refusal some? refuse_if or_else
+  by_first = go (ltb largest v)
     where
-      go : (b : Bool) → 0 ≡ cond (b && false) gaps_full 0
+      go : (b : Bool) → cond (b || some? (ltb largest) vs) COUNT 0 ≡ cond (eqb (cond (b || false) COUNT 0) 0) (cond (some? (ltb largest) vs) COUNT 0) (cond (b || false) COUNT 0)
       go true = refl
       go false = refl
 
-  pub step_fits : opened + (s - 1) ≤ most → 0 ≡ full
-  unfolding refuse_if
-  step_fits h = rw (le-ltb most (opened + (s - 1)) h)
+  pub count_refused : (e : Refusal) → number e ≡ count_refusal (v ∷ []) → number e ≡ count_refusal (v ∷ vs)
+  count_refused e h = or_else_refused e (count_refusal vs) h ∙ sym by_first
 
-  pub step_over : 2 ≤ s → most < opened + (s - 1) → gaps_full ≡ full
-  unfolding refuse_if
-  step_over g h = rw (lt-ltb most (opened + (s - 1)) h, le-leb 2 s g)
+  pub count_passed : 0 ≡ count_refusal (v ∷ []) → count_refusal vs ≡ count_refusal (v ∷ vs)
+  count_passed h = sym (by_first ∙ or_else_second _ (count_refusal vs) (sym h))

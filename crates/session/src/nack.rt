@@ -1,21 +1,21 @@
 // The timings of NACKs (01, "Repair state"): the settings', and the measured round trip's.
+#![tactic(auto, unfolding(model::specs::Rules::estimate_in, model::specs::Rules::timings_in))]
+
 ghost use Rattle.std.specs.Prelude.{◌≡◌};
 ghost use Rattle.model.specs.Poll.{estimate_of, timings_of};
 
 use config::NackTimings;
 use model::Queue;
-use rtx_state::OptRtt;
+use rtx_state::RtxRtt;
 
 // The measured round trip; a session without RTX has none.
-pub(crate) fn estimate_of(q: Queue) -> OptRtt
+pub(crate) fn estimate_of(q: Queue) -> Option<RtxRtt>
     ensures { result ≡ estimate_of q }
 {
-    let config = q.config;
-    let rtx = q.rtx;
-    if config.senders.has_rtx {
-        rtx.rtt
+    if q.config.senders.has_rtx {
+        q.rtx.rtt
     } else {
-        OptRtt::None
+        None
     }
 }
 
@@ -23,7 +23,5 @@ pub(crate) fn estimate_of(q: Queue) -> OptRtt
 pub fn nack_timings(q: Queue) -> NackTimings
     ensures { result ≡ timings_of q }
 {
-    let config = q.config;
-    let set = config.settings;
-    set.nack_timings(estimate_of(q))
+    q.config.settings.nack_timings(estimate_of(q))
 }

@@ -1,4 +1,7 @@
 // `push` (000) on the records that go by value: what is counted, and which check turns a media packet back.
+#![tactic(auto, unfolding(crate::specs::Place::place, model::specs::Rules::waits, model::specs::Push::last_after, model::specs::Push::count_dropped, model::specs::Push::count_received, model::specs::Push::heard, model::specs::Table::too_many_gaps, refusals::specs::Refusals::refuse_if))]
+
+ghost use Rattle.refusals.specs.Refusals.{refusal_of};
 ghost use Rattle.std.specs.Prelude.{◌≡◌, ◌&&◌, [], ◌∷◌, ◌+◌, ◌-◌, ◌<◌, ◌≤◌, leb, ltb};
 ghost use Rattle.durations.specs.Seconds.{largest};
 ghost use Rattle.refusals.specs.Refusals as Refusals;
@@ -9,7 +12,8 @@ ghost use Rattle.session.specs.Place as Spec;
 
 use config::Settings;
 use durations::LARGEST;
-use model::{Counters, LastReceived, Queue, Received};
+use model::{Counters, Queue, Received};
+use refusals::Refusal;
 use rtp::{ExtendedRtpTimestamp, ExtendedSequenceNumber};
 
 // Where a media number stands: before any other packet, above the highest by at most 1,000 or by more, in an open gap, or elsewhere.
@@ -26,45 +30,26 @@ pub enum Place {
 pub fn waits(place: Place) -> bool
     ensures { result ≡ Rules.waits (Spec.place place) }
 {
-    match place {
-        Place::Other => false,
-        Place::First => true,
-        Place::Near(_) => true,
-        Place::Far(_) => true,
-        Place::Fills => true,
-    }
-}
-
-fn received_at(
-    now: u64,
-    timestamp: ExtendedRtpTimestamp,
-    number: ExtendedSequenceNumber,
-) -> LastReceived
-    ensures { result ≡ Push.last_after now timestamp.0 number.0 Rules.first LastReceived.None }
-{
-    LastReceived::Some(Received {
-        instant: now,
-        timestamp,
-        number,
-    })
+    !matches!(place, Place::Other)
 }
 
 // Forward progress only.
 fn last_after(
-    last: LastReceived,
+    last: Option<Received>,
     now: u64,
     timestamp: ExtendedRtpTimestamp,
     number: ExtendedSequenceNumber,
     place: Place,
-) -> LastReceived
+) -> Option<Received>
     ensures { result ≡ Push.last_after now timestamp.0 number.0 (Spec.place place) last }
 {
     match place {
-        Place::First => received_at(now, timestamp, number),
-        Place::Near(_) => received_at(now, timestamp, number),
-        Place::Far(_) => received_at(now, timestamp, number),
-        Place::Fills => last,
-        Place::Other => last,
+        Place::First | Place::Near(_) | Place::Far(_) => Some(Received {
+            instant: now,
+            timestamp,
+            number,
+        }),
+        Place::Fills | Place::Other => last,
     }
 }
 
@@ -74,9 +59,7 @@ fn count_dropped(c: Counters) -> Counters
 {
     Counters {
         dropped: c.dropped + 1,
-        received: c.received,
-        bytes: c.bytes,
-        lost: c.lost,
+        ..c
     }
 }
 
@@ -85,10 +68,9 @@ fn count_received(c: Counters, size: u64) -> Counters
     ensures { result ≡ Push.count_received size c }
 {
     Counters {
-        dropped: c.dropped,
         received: c.received + 1,
         bytes: c.bytes + size,
-        lost: c.lost,
+        ..c
     }
 }
 
@@ -97,10 +79,11 @@ pub fn dropped(q: Queue, now: u64, timestamp: ExtendedRtpTimestamp) -> Queue
     requires { q.counters.dropped < largest }
     ensures { result ≡ Push.queue_dropped now timestamp.0 q }
 {
-    let counters = count_dropped(q.counters);
-    let mut next = super::heard(q, now, timestamp);
-    next.counters = counters;
-    next
+    let heard = super::heard(q, now, timestamp);
+    Queue {
+        counters: count_dropped(q.counters),
+        ..heard
+    }
 }
 
 // The queue after a packet that is queued.
@@ -115,24 +98,11 @@ pub fn queued(
     requires { (q.counters.received < largest) × (q.counters.bytes + size ≤ largest) }
     ensures { result ≡ Push.queue_queued now timestamp.0 number.0 size (Spec.place place) q }
 {
-    let counters = count_received(q.counters, size);
-    let before = q.last;
-    let last = last_after(before, now, timestamp, number, place);
-    let loss = q.loss.record_received();
-    let heard = super::heard(q, now, timestamp);
-    let config = heard.config;
-    let returned = heard.returned;
-    let rtx = heard.rtx;
-    let jitter = heard.jitter;
     Queue {
-        config,
-        clock: now,
-        last,
-        returned,
-        rtx,
-        counters,
-        jitter,
-        loss,
+        last: last_after(q.last, now, timestamp, number, place),
+        counters: count_received(q.counters, size),
+        loss: q.loss.record_received(),
+        ..super::heard(q, now, timestamp)
     }
 }
 
@@ -141,106 +111,97 @@ pub fn pushed_out(q: Queue, number: ExtendedSequenceNumber) -> Queue
     requires { q.counters.dropped < largest }
     ensures { result ≡ Push.queue_pushed_out number.0 q }
 {
-    let counters = count_dropped(q.counters);
-    let mut next = q;
-    next.counters = counters;
-    super::with_returned(next, number)
+    Queue {
+        returned: Some(number),
+        counters: count_dropped(q.counters),
+        ..q
+    }
 }
 
 // 14, "would pass 2^52 − 1", for one value.
-pub fn count_refusal(value: u64) -> u64
-    ensures { result ≡ Table.count_refusal (value ∷ []) }
+#[tactic(auto, using(crate::proofs::Counts::count_none, crate::proofs::Counts::count_here, crate::proofs::Counts::count_past))]
+pub fn check_count(value: u64) -> Result<(), Refusal>
+    ensures { refusal_of result ≡ Table.count_refusal (value ∷ []) }
 {
     if LARGEST < value {
-        return refusals::COUNT;
+        return Err(Refusal::Count);
     }
-    0
+    Ok(())
 }
 
 // 14 for a counter that would go up by one.
-pub fn next_count_refusal(value: u64) -> u64
-    ensures { result ≡ Table.count_refusal ((value + 1) ∷ []) }
+#[tactic(auto, using(crate::proofs::Counts::count_none, crate::proofs::Counts::count_here, crate::proofs::Counts::count_past))]
+pub fn check_next_count(value: u64) -> Result<(), Refusal>
+    ensures { refusal_of result ≡ Table.count_refusal ((value + 1) ∷ []) }
 {
     if LARGEST <= value {
-        return refusals::COUNT;
+        return Err(Refusal::Count);
     }
-    0
+    Ok(())
 }
 
 // 14 for what a packet would raise; `full` says that the front entry would be pushed out.
-fn counters_refusal(c: Counters, size: u64, waits: bool, full: bool) -> u64
+// Stays: a packet that waits and a full queue are what the law counts by.
+#[tactic(auto, using(crate::proofs::Counts::count_none, crate::proofs::Counts::count_refused, crate::proofs::Counts::count_passed), unfolding(model::specs::Table::media_values))]
+fn check_counters(c: Counters, size: u64, waits: bool, full: bool) -> Result<(), Refusal>
     requires { (c.bytes ≤ largest) × (size ≤ largest) }
-    ensures { result ≡ Table.count_refusal (Table.media_values c size waits full) }
+    ensures { refusal_of result ≡ Table.count_refusal (Table.media_values c size waits full) }
 {
-    if !waits {
-        return next_count_refusal(c.dropped);
+    if waits {
+        check_next_count(c.received)?;
+        check_count(c.bytes + size)?;
+        if !full {
+            return Ok(());
+        }
     }
-    if LARGEST <= c.received {
-        return refusals::COUNT;
-    }
-    if LARGEST < c.bytes + size {
-        return refusals::COUNT;
-    }
-    if full {
-        return next_count_refusal(c.dropped);
-    }
-    0
+    check_next_count(c.dropped)
 }
 
 // 14 for what a packet works out, its timestamp and number, and for the counters that it would raise.
-pub fn counts_refusal(
+#[tactic(auto, using(crate::proofs::Counts::count_none, crate::proofs::Counts::count_refused, crate::proofs::Counts::count_passed), unfolding(model::specs::Table::media_values))]
+pub fn check_counts(
     c: Counters,
     timestamp: ExtendedRtpTimestamp,
     number: ExtendedSequenceNumber,
     size: u64,
     waits: bool,
     full: bool,
-) -> u64
+) -> Result<(), Refusal>
     requires { (c.bytes ≤ largest) × (size ≤ largest) }
-    ensures { result ≡ Table.count_refusal (timestamp.0 ∷ number.0 ∷ Table.media_values c size waits full) }
+    ensures { refusal_of result ≡ Table.count_refusal (timestamp.0 ∷ number.0 ∷ Table.media_values c size waits full) }
 {
-    if LARGEST < timestamp.0 {
-        return refusals::COUNT;
-    }
-    if LARGEST < number.0 {
-        return refusals::COUNT;
-    }
-    counters_refusal(c, size, waits, full)
+    check_count(timestamp.0)?;
+    check_count(number.0)?;
+    check_counters(c, size, waits, full)
 }
 
 // 12 with so many gaps open and a step of s above the highest.
-fn room_refusal(max_gaps: usize, opened: usize, s: u64) -> u64
+fn check_room(max_gaps: usize, opened: usize, s: u64) -> Result<(), Refusal>
     requires { opened ≤ max_gaps }
-    ensures { result ≡ Refusals.refuse_if (ltb max_gaps (opened + (s - 1)) && leb 2 s) Refusals.gaps_full }
+    ensures { refusal_of result ≡ Refusals.refuse_if (ltb max_gaps (opened + (s - 1)) && leb 2 s) Refusals.gaps_full }
 {
     if s < 2 {
-        return 0;
+        return Ok(());
     }
     let left = max_gaps - opened;
     if (left as u64) < s - 1 {
-        return refusals::GAPS_FULL;
+        return Err(Refusal::GapsFull);
     }
-    0
+    Ok(())
 }
 
 // 12, with so many gaps open.
-pub fn gaps_refusal(
+pub fn check_gaps(
     settings: Settings,
     opened: usize,
     number: ExtendedSequenceNumber,
     place: Place,
-) -> u64
+) -> Result<(), Refusal>
     requires { opened ≤ settings.max_gaps }
-    ensures { result ≡ Refusals.refuse_if (Table.too_many_gaps settings opened number.0 (Spec.place place)) Refusals.gaps_full }
+    ensures { refusal_of result ≡ Refusals.refuse_if (Table.too_many_gaps settings opened number.0 (Spec.place place)) Refusals.gaps_full }
 {
     match place {
-        Place::Near(h) => {
-            let s = rtp::saturating_sub(number.0, h.0);
-            room_refusal(settings.max_gaps, opened, s)
-        }
-        Place::First => 0,
-        Place::Far(_) => 0,
-        Place::Fills => 0,
-        Place::Other => 0,
+        Place::Near(h) => { check_room(settings.max_gaps, opened, number.0.saturating_sub(h.0)) }
+        Place::First | Place::Far(_) | Place::Fills | Place::Other => Ok(()),
     }
 }

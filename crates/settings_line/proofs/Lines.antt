@@ -3,7 +3,6 @@
 use mathlib.Core.Path.{◌≡◌, refl, sym, ap, ◌∙◌}
 use mathlib.Core.Bool.{Bool, true, false, cond, not, ◌&&◌, ◌||◌}
 use mathlib.Core.List.{List, [], ◌∷◌, ◌++◌, append_assoc}
-use mathlib.Core.Option.{Option, none, some}
 use Prim.Native.Nat.{ℕ, ◌+◌, ◌*◌, ◌-◌, ◌≤◌, ◌<◌}
 use native.Mathlib.Omega.{arith}
 use borrow.Author.Tests.{lt-ltb, le-ltb, le-leb, leb-true, eq-eqb, ne_eqb, eqb-true}
@@ -13,7 +12,7 @@ use lib.Seq.{take_at, take_all, drop_at, drop-drop, drop-cons, get_or_at, length
 use Rattle.words.specs.Words.{over}
 use Rattle.words.proofs.Over.{take-over, over_more}
 use Rattle.columns.specs.Columns.{decimal_up_to, justified, field_number}
-use Rattle.rtp.specs.declared.opt.Opt.TheVariants.{None, Some}
+use Rattle.std.specs.Prelude.{None, Some, Option, Ok, Err}
 use Rattle.columns.proofs.Filling.{length-justified}
 use Rattle.columns.proofs.Both.{read_back, inverse}
 use Rattle.refusals.specs.Refusals.{SETTINGS, OUTPUT, settings_line, line_version}
@@ -22,8 +21,6 @@ use Rattle.config.specs.Valid.{settings_valid}
 use Rattle.settings_line.specs.Fields.{numbers_of, settings_of, zeros_outside, line_valid}
 use Rattle.settings_line.specs.Line.{fields, line_of, outcome, write_line, same, begins, numbers_in, line_numbers, taken, without_window, read_first, read_second, read_line}
 use Rattle.settings_line.specs.Claims.{Only, AsTheOpening}
-use Rattle.settings_line.specs.declared.ReadSettings.{ReadSettings}
-use Rattle.settings_line.specs.declared.WroteSettings.{WroteSettings}
 use Rattle.settings_line.proofs.Numbered.{length_fields, numbers-back, Readable, numbers-only}
 use Rattle.settings_line.proofs.Ranges.{both, mode_most, settings_back, numbers_again, first_eight, numbers-held, narrow}
 
@@ -116,30 +113,30 @@ module _ (s : Settings) where
   unfolding line_of
   line_end = get_or_at (fields (2 ∷ numbers_of s)) 10 [] 0 144 (omega (arith, length_fields (2 ∷ numbers_of s), eleven))
 
-  line_numbers_lem : settings_valid s ≡ true → line_numbers 11 (line_of s) ≡ some (numbers_of s)
+  line_numbers_lem : settings_valid s ≡ true → line_numbers 11 (line_of s) ≡ Some (numbers_of s)
   unfolding line_numbers
   line_numbers_lem e =
       let d : drop 12 (line_of s) ≡ fields (numbers_of s) ++ (10 ∷ []) = ap (drop 12) line_is ∙ drop_at (justified 12 2) (fields (numbers_of s) ++ (10 ∷ [])) 12 (length-justified 12 2) in
-      let b : numbers_in 11 (fields (numbers_of s) ++ (10 ∷ [])) ≡ some (numbers_of s) = rw eleven at (numbers-back (numbers_of s) (10 ∷ []) (numbers-held s e)) in
+      let b : numbers_in 11 (fields (numbers_of s) ++ (10 ∷ [])) ≡ Some (numbers_of s) = rw eleven at (numbers-back (numbers_of s) (10 ∷ []) (numbers-held s e)) in
       rw (length_line, line_end, d) b
 
   mode-first : get_or (numbers_of s) 0 0 ≤ 2
   unfolding numbers_of
   mode-first = mode_most s.mode
 
-  pub line_back : line_valid s ≡ true → read_line (line_of s) ≡ ReadSettings.Settings s
+  pub line_back : line_valid s ≡ true → read_line (line_of s) ≡ Ok s
   unfolding read_line read_second taken line_valid
   line_back e =
       let b = both (settings_valid s) (zeros_outside (numbers_of s)) e in
       rw (other-version (line_of s) line_begins, line_begins, line_numbers_lem b.0, le-leb (get_or (numbers_of s) 0 0) 2 mode-first, b.1, settings_back s, b.0)
 
-pub made-back : (s : Settings) (out : List ℕ) → (write_line s out).answer ≡ WroteSettings.Bytes 145 → read_line (take 145 (write_line s out).output) ≡ ReadSettings.Settings s
+pub made_back : (s : Settings) (out : List ℕ) → (write_line s out).answer ≡ Ok 145 → read_line (take 145 (write_line s out).output) ≡ Ok s
 unfolding write_line
-made-back s out e = go (line_valid s) (ltb (length out) 145) refl refl e
+made_back s out e = go (line_valid s) (ltb (length out) 145) refl refl e
   where
     go : (x y : Bool) → line_valid s ≡ x → ltb (length out) 145 ≡ y
-        → (cond (not x) (outcome (WroteSettings.Refused SETTINGS) out) (cond y (outcome (WroteSettings.Refused OUTPUT) out) (outcome (WroteSettings.Bytes 145) (over (line_of s) out)))).answer ≡ WroteSettings.Bytes 145
-        → read_line (take 145 (cond (not x) (outcome (WroteSettings.Refused SETTINGS) out) (cond y (outcome (WroteSettings.Refused OUTPUT) out) (outcome (WroteSettings.Bytes 145) (over (line_of s) out)))).output) ≡ ReadSettings.Settings s
+        → (cond (not x) (outcome (Err SETTINGS) out) (cond y (outcome (Err OUTPUT) out) (outcome (Ok 145) (over (line_of s) out)))).answer ≡ Ok 145
+        → read_line (take 145 (cond (not x) (outcome (Err SETTINGS) out) (cond y (outcome (Err OUTPUT) out) (outcome (Ok 145) (over (line_of s) out)))).output) ≡ Ok s
     go false y p q e = let z : ◌≡◌ {A = ℕ} 0 1 = cc in absurd (omega arith)
     go true true p q e = let z : ◌≡◌ {A = ℕ} 0 1 = cc in absurd (omega arith)
     go true false p q e =
@@ -151,13 +148,13 @@ made-back s out e = go (line_valid s) (ltb (length out) 145) refl refl e
 record Parts (line ns : List ℕ) : Type 0 where
   size : length line ≡ 145
   feed : get_or line 144 0 ≡ 10
-  numbers : numbers_in 11 (drop 12 line) ≡ some ns
+  numbers : numbers_in 11 (drop 12 line) ≡ Some ns
 
-parts : (line ns : List ℕ) → line_numbers 11 line ≡ some ns → Parts line ns
+parts : (line ns : List ℕ) → line_numbers 11 line ≡ Some ns → Parts line ns
 unfolding line_numbers
 parts line ns e = go (eqb (length line) 145) (eqb (get_or line 144 0) 10) refl refl e
   where
-    go : (x y : Bool) → eqb (length line) 145 ≡ x → eqb (get_or line 144 0) 10 ≡ y → cond (x && y) (numbers_in 11 (drop 12 line)) none ≡ some ns → Parts line ns
+    go : (x y : Bool) → eqb (length line) 145 ≡ x → eqb (get_or line 144 0) 10 ≡ y → cond (x && y) (numbers_in 11 (drop 12 line)) None ≡ Some ns → Parts line ns
     go true true p q e = record { size = eqb-true (length line) 145 p; feed = eqb-true (get_or line 144 0) 10 q; numbers = e }
     go true false p q e = let z : ◌≡◌ {A = ℕ} 0 1 = cc in absurd (omega arith)
     go false y p q e = let z : ◌≡◌ {A = ℕ} 0 1 = cc in absurd (omega arith)
@@ -178,21 +175,21 @@ record Fit (version : ℕ) (ns : List ℕ) (s : Settings) : Type 0 where
   ranges : settings_valid (settings_of ns) ≡ true
   made : settings_of ns ≡ s
 
-fit : (version : ℕ) (ns : List ℕ) (s : Settings) → taken version ns ≡ ReadSettings.Settings s → Fit version ns s
+fit : (version : ℕ) (ns : List ℕ) (s : Settings) → taken version ns ≡ Ok s → Fit version ns s
 unfolding taken
 fit version ns s e = go (leb (get_or ns 0 0) version) (zeros_outside ns) (settings_valid (settings_of ns)) refl refl refl e
   where
-    go : (x y z : Bool) → leb (get_or ns 0 0) version ≡ x → zeros_outside ns ≡ y → settings_valid (settings_of ns) ≡ z → cond (x && y && z) (ReadSettings.Settings (settings_of ns)) (ReadSettings.Refused SETTINGS) ≡ ReadSettings.Settings s → Fit version ns s
+    go : (x y z : Bool) → leb (get_or ns 0 0) version ≡ x → zeros_outside ns ≡ y → settings_valid (settings_of ns) ≡ z → cond (x && y && z) (Ok (settings_of ns)) (Err SETTINGS) ≡ Ok s → Fit version ns s
     go true true true p q r e = record { known = leb-true (get_or ns 0 0) version p; zeros = q; ranges = r; made = cc }
     go true true false p q r e = let z : ◌≡◌ {A = ℕ} 0 1 = cc in absurd (omega arith)
     go true false z p q r e = let z : ◌≡◌ {A = ℕ} 0 1 = cc in absurd (omega arith)
     go false y z p q r e = let z : ◌≡◌ {A = ℕ} 0 1 = cc in absurd (omega arith)
 
-pub line_only : (s : Settings) (line : List ℕ) → begins 2 line ≡ true → read_line line ≡ ReadSettings.Settings s → Only s line
+pub line_only : (s : Settings) (line : List ℕ) → begins 2 line ≡ true → read_line line ≡ Ok s → Only s line
 unfolding read_line read_second line_valid
 line_only s line b e = go (line_numbers 11 line) refl (rw (other-version line b, b) at e)
   where
-    settled : (ns : List ℕ) → line_numbers 11 line ≡ some ns → Fit 2 ns s → Only s line
+    settled : (ns : List ℕ) → line_numbers 11 line ≡ Some ns → Fit 2 ns s → Only s line
     settled ns l f =
         let k = parts line ns l in
         let t : settings_of ns ≡ s = f.made in
@@ -203,27 +200,27 @@ line_only s line b e = go (line_numbers 11 line) refl (rw (other-version line b,
           made = line_of-parts line ns b k ∙ ap (λ (m : List ℕ). justified 12 2 ++ (fields m ++ (10 ∷ []))) n ∙ sym (line_is s);
         }
 
-    go : (o : Option (List ℕ)) → line_numbers 11 line ≡ o → read_second o ≡ ReadSettings.Settings s → Only s line
-    go none l e = let z : ◌≡◌ {A = ℕ} 0 1 = cc in absurd (omega arith)
-    go (some ns) l e = settled ns l (fit 2 ns s e)
+    go : (o : Option (List ℕ)) → line_numbers 11 line ≡ o → read_second o ≡ Ok s → Only s line
+    go None l e = let z : ◌≡◌ {A = ℕ} 0 1 = cc in absurd (omega arith)
+    go (Some ns) l e = settled ns l (fit 2 ns s e)
 
 -- ---- the opening
 
-first-opens : (s : Settings) (o : Option (List ℕ)) → read_first o ≡ ReadSettings.Settings s → settings_valid s ≡ true
+first-opens : (s : Settings) (o : Option (List ℕ)) → read_first o ≡ Ok s → settings_valid s ≡ true
 unfolding read_first
-first-opens s none e = let z : ◌≡◌ {A = ℕ} 0 1 = cc in absurd (omega arith)
-first-opens s (some ns) e = let f = fit 1 (without_window ns) s e in rw f.made at f.ranges
+first-opens s None e = let z : ◌≡◌ {A = ℕ} 0 1 = cc in absurd (omega arith)
+first-opens s (Some ns) e = let f = fit 1 (without_window ns) s e in rw f.made at f.ranges
 
-second_opens : (s : Settings) (o : Option (List ℕ)) → read_second o ≡ ReadSettings.Settings s → settings_valid s ≡ true
+second_opens : (s : Settings) (o : Option (List ℕ)) → read_second o ≡ Ok s → settings_valid s ≡ true
 unfolding read_second
-second_opens s none e = let z : ◌≡◌ {A = ℕ} 0 1 = cc in absurd (omega arith)
-second_opens s (some ns) e = let f = fit 2 ns s e in rw f.made at f.ranges
+second_opens s None e = let z : ◌≡◌ {A = ℕ} 0 1 = cc in absurd (omega arith)
+second_opens s (Some ns) e = let f = fit 2 ns s e in rw f.made at f.ranges
 
-read-opens : (s : Settings) (line : List ℕ) → read_line line ≡ ReadSettings.Settings s → settings_valid s ≡ true
+read-opens : (s : Settings) (line : List ℕ) → read_line line ≡ Ok s → settings_valid s ≡ true
 unfolding read_line
 read-opens s line e = go (begins 1 line) (begins 2 line) e
   where
-    go : (x y : Bool) → cond x (read_first (line_numbers 9 line)) (cond y (read_second (line_numbers 11 line)) (ReadSettings.Refused line_version)) ≡ ReadSettings.Settings s → settings_valid s ≡ true
+    go : (x y : Bool) → cond x (read_first (line_numbers 9 line)) (cond y (read_second (line_numbers 11 line)) (Err line_version)) ≡ Ok s → settings_valid s ≡ true
     go true y e = first-opens s (line_numbers 9 line) e
     go false true e = second_opens s (line_numbers 11 line) e
     go false false e = let z : ◌≡◌ {A = ℕ} 0 1 = cc in absurd (omega arith)
@@ -235,38 +232,40 @@ opening = record { opens = read-opens; writes = λ s out v z h. rw (v, z, le-ltb
 -- ---- the reader's cases
 
 module _ (k : ℕ) (line : List ℕ) where
-  pub wrong_length : (length line ≡ 12 * (k + 1) + 1 → ⊥) → line_numbers k line ≡ none
+  pub wrong_length : (length line ≡ 12 * (k + 1) + 1 → ⊥) → line_numbers k line ≡ None
   unfolding line_numbers
   wrong_length h = rw (ne_eqb (length line) (12 * (k + 1) + 1) h)
 
   module _ (l : length line ≡ 12 * (k + 1) + 1) where
-    pub wrong_feed : (get_or line (12 * (k + 1)) 0 ≡ 10 → ⊥) → line_numbers k line ≡ none
+    pub wrong_feed : (get_or line (12 * (k + 1)) 0 ≡ 10 → ⊥) → line_numbers k line ≡ None
     unfolding line_numbers
     wrong_feed h = rw (eq-eqb (length line) (12 * (k + 1) + 1) l, ne_eqb (get_or line (12 * (k + 1)) 0) 10 h)
 
-    pub right_line : get_or line (12 * (k + 1)) 0 ≡ 10 → line_numbers k line ≡ numbers_in k (drop 12 line)
+    pub right_line : get_or line (12 * (k + 1)) 0 ≡ 10 → numbers_in k (take (length line - 12) (drop 12 line)) ≡ line_numbers k line
     unfolding line_numbers
-    right_line h = rw (eq-eqb (length line) (12 * (k + 1) + 1) l, eq-eqb (get_or line (12 * (k + 1)) 0) 10 h)
+    right_line h =
+        rw (take_all (length line - 12) (drop 12 line) (omega (arith, length-drop 12 line)), eq-eqb (length line) (12 * (k + 1) + 1) l, eq-eqb (get_or line (12 * (k + 1)) 0) 10 h)
 
-    -- what `are_numbers` answers of the fields
-    pub answered : get_or line (12 * (k + 1)) 0 ≡ 10 → (r : Bool) (vs : List ℕ) → cond r (some vs) none ≡ numbers_in k (take (length line - 12) (drop 12 line)) → line_numbers k line ≡ cond r (some vs) none
-    answered h r vs e = right_line h ∙ sym (ap (numbers_in k) (take_all (length line - 12) (drop 12 line) (omega (arith, length-drop 12 line)))) ∙ sym e
+-- what the checks of `is_version` and of `line_numbers` need
+pub ruleset version = (begins-short, begins-none, begins-some)
 
-pub first_taken : (o : Option (List ℕ)) (vs : List ℕ) → o ≡ some vs → length vs ≡ 9
+pub ruleset whole_line = (wrong_length, wrong_feed, right_line)
+
+pub first_taken : (o : Option (List ℕ)) (vs : List ℕ) → o ≡ Some vs → length vs ≡ 9
     → taken 1 (get_or vs 0 0 ∷ get_or vs 1 0 ∷ get_or vs 2 0 ∷ get_or vs 3 0 ∷ get_or vs 4 0 ∷ get_or vs 5 0 ∷ get_or vs 6 0 ∷ get_or vs 7 0 ∷ 0 ∷ 0 ∷ 0 ∷ []) ≡ read_first o
 unfolding read_first
 first_taken o vs e l = rw (e, first_eight vs l)
 
-pub second_taken : (o : Option (List ℕ)) (vs : List ℕ) → o ≡ some vs → taken 2 vs ≡ read_second o
+pub second_taken : (o : Option (List ℕ)) (vs : List ℕ) → o ≡ Some vs → taken 2 vs ≡ read_second o
 unfolding read_second
 second_taken o vs e = rw e
 
 -- a number that 32 bits do not hold is out of range
-pub too_wide : (version : ℕ) (ns : List ℕ) → (ltb 4294967295 (get_or ns 1 0) || ltb 4294967295 (get_or ns 7 0)) ≡ true → ReadSettings.Refused SETTINGS ≡ taken version ns
+pub too_wide : (version : ℕ) (ns : List ℕ) → (ltb 4294967295 (get_or ns 1 0) || ltb 4294967295 (get_or ns 7 0)) ≡ true → Err SETTINGS ≡ taken version ns
 unfolding taken
 too_wide version ns h = go (leb (get_or ns 0 0) version && zeros_outside ns) (settings_valid (settings_of ns)) refl
   where
-    go : (x y : Bool) → settings_valid (settings_of ns) ≡ y → ReadSettings.Refused SETTINGS ≡ cond (x && y) (ReadSettings.Settings (settings_of ns)) (ReadSettings.Refused SETTINGS)
+    go : (x y : Bool) → settings_valid (settings_of ns) ≡ y → Err SETTINGS ≡ cond (x && y) (Ok (settings_of ns)) (Err SETTINGS)
     go x true e =
         let w = narrow ns e in
         let f : false ≡ true = rw (le-ltb 4294967295 (get_or ns 1 0) (omega arith), le-ltb 4294967295 (get_or ns 7 0) (omega arith)) at h in
@@ -275,9 +274,13 @@ too_wide version ns h = go (leb (get_or ns 0 0) version && zeros_outside ns) (se
     go false false e = refl
 
 -- 20
-pub unread : (o : Option (List ℕ)) → o ≡ none → (ReadSettings.Refused settings_line ≡ read_first o) × (ReadSettings.Refused settings_line ≡ read_second o)
-unfolding read_first read_second
-unread o e = (rw e, rw e)
+pub first_unread : (o : Option (List ℕ)) → o ≡ None → Err settings_line ≡ read_first o
+unfolding read_first
+first_unread o e = rw e
+
+pub second_unread : (o : Option (List ℕ)) → o ≡ None → Err settings_line ≡ read_second o
+unfolding read_second
+second_unread o e = rw e
 
 -- ---- the writer's line, its line feed last
 
@@ -296,3 +299,6 @@ fed s out h =
     let t : take 144 q ≡ fields (2 ∷ numbers_of s) = take_at (fields (2 ∷ numbers_of s)) (10 ∷ []) 144 l in
     let g : 10 ≡ get_or q 144 0 = sym (get_or_at (fields (2 ∷ numbers_of s)) 10 [] 0 144 l) in
     sym (ap (λ (x : List ℕ). set (over x out) 144 10) t) ∙ over_more q out 144 10 (omega arith) (omega arith) g ∙ ap (λ (x : List ℕ). over x out) (take_all 145 q (omega arith))
+
+-- what the check of `write_line` needs
+pub ruleset written_line = (by-fields, fed, opening)

@@ -1,18 +1,16 @@
 -- Fields of twelve columns, one after the other: written, and read number by number. One field is the law of `columns`.
 use mathlib.Core.Path.{◌≡◌, refl, sym, ap, ◌∙◌}
 use mathlib.Core.List.{List, [], ◌∷◌, ◌++◌, append_assoc, append-nil}
-use mathlib.Core.Option.{Option, none, some}
 use Prim.Native.Nat.{ℕ, zero, suc, ◌+◌, ◌*◌, ◌-◌, ◌≤◌, ◌<◌}
 use native.Mathlib.Numerals.{add-one}
 use native.Mathlib.Omega.{arith}
 use lib.ListN.{length, take, drop, get_or, set, length-append, length-drop, length-set}
 use lib.Seq.{take-suc, take_all, take_at, drop_at, take-add, take-suc-set, drop-drop, length-take-le}
 use Rattle.words.specs.Words.{over, written}
-use Rattle.words.proofs.Over.{over_nil, length_over}
+use Rattle.words.proofs.Over.{over_nil}
 use Rattle.words.proofs.Moves.{written_next}
 use Rattle.columns.specs.Columns.{justified, field_number}
-use Rattle.rtp.specs.declared.opt.Opt.{Opt}
-use Rattle.rtp.specs.declared.opt.Opt.TheVariants.{None, Some}
+use Rattle.std.specs.Prelude.{None, Some, Option}
 use Rattle.columns.proofs.Filling.{length-justified}
 use Rattle.columns.proofs.Both.{read_back, inverse}
 use Rattle.settings_line.specs.Line.{fields, prepend, with_number, numbers_in}
@@ -30,83 +28,77 @@ length_fields [] = refl
 length_fields (n ∷ ns) = omega (arith, length-append (justified 12 n) (fields ns), length-justified 12 n, length_fields ns)
 
 -- s is d with the fields of the first i numbers written over its front
-pub record Putting (ns d s : List ℕ) (i : ℕ) : Type 0 where
-  pub room : 12 * length ns ≤ length d
-  pub upto : i ≤ length ns
-  pub same : length s ≡ length d
-  pub text : s ≡ over (fields (take i ns)) d
-
-pub putting_none : (ns d : List ℕ) → 12 * length ns ≤ length d → Putting ns d d 0
-unfolding fields
-putting_none ns d h = record { room = h; upto = omega arith; same = refl; text = sym (over_nil d) }
-
-pub putting_more : (ns d s y : List ℕ) (i : ℕ) → Putting ns d s i → i < length ns → y ≡ written (12 * i) (justified 12 (get_or ns i 0)) s → Putting ns d y (i + 1)
+pub putting_more : (ns d s y : List ℕ) (i : ℕ) → s ≡ over (fields (take i ns)) d → i < length ns → y ≡ written (12 * i) (justified 12 (get_or ns i 0)) s
+    → y ≡ over (fields (take (i + 1) ns)) d
 putting_more ns d s y i p h e =
     let t : take (i + 1) ns ≡ take i ns ++ (get_or ns i 0 ∷ []) = rw (add-one i) (take-suc ns i 0 h) in
     let l : length (fields (take i ns)) ≡ 12 * i = omega (arith, length_fields (take i ns), length-take-le i ns (omega arith)) in
-    let q : y ≡ over (fields (take (i + 1) ns)) d =
-    e ∙ rw (p.text, t, fields_more (take i ns) (get_or ns i 0)) (written_next (fields (take i ns)) (justified 12 (get_or ns i 0)) d (12 * i) l) in
-    let room : 12 * length ns ≤ length d = p.room in
-    let m : length (fields (take (i + 1) ns)) ≤ length d = omega (arith, length_fields (take (i + 1) ns), length-take-le (i + 1) ns (omega arith)) in
-    record { room = room; upto = omega arith; same = ap length q ∙ length_over (fields (take (i + 1) ns)) d m; text = q }
+    e ∙ rw (p, t, fields_more (take i ns) (get_or ns i 0)) (written_next (fields (take i ns)) (justified 12 (get_or ns i 0)) d (12 * i) l)
 
-pub putting_all : (ns d s : List ℕ) (i : ℕ) → Putting ns d s i → length ns ≤ i → s ≡ over (fields ns) d
-putting_all ns d s i p h = p.text ∙ ap (λ (t : List ℕ). over (fields t) d) (take_all i ns h)
+pub putting_none : (d : List ℕ) → d ≡ over (fields []) d
+unfolding fields
+putting_none d = sym (over_nil d)
+
+pub putting_all : (ns d s : List ℕ) (i : ℕ) → s ≡ over (fields (take i ns)) d → length ns ≤ i → s ≡ over (fields ns) d
+putting_all ns d s i p h = p ∙ ap (λ (t : List ℕ). over (fields t) d) (take_all i ns h)
 
 -- ---- read
 
 prepend_nil : (o : Option (List ℕ)) → prepend [] o ≡ o
 unfolding prepend
-prepend_nil none = refl
-prepend_nil (some ws) = refl
+prepend_nil None = refl
+prepend_nil (Some ws) = refl
 
 prepend-prepend : (vs ws : List ℕ) (o : Option (List ℕ)) → prepend vs (prepend ws o) ≡ prepend (vs ++ ws) o
 unfolding prepend
-prepend-prepend vs ws none = refl
-prepend-prepend vs ws (some us) = ap some (sym (append_assoc vs ws us))
+prepend-prepend vs ws None = refl
+prepend-prepend vs ws (Some us) = ap Some (sym (append_assoc vs ws us))
 
--- the first i of the places hold the numbers of the first i fields
-pub record Gathering (s d values : List ℕ) (i : ℕ) : Type 0 where
-  pub room : 12 * length d ≤ length s
-  pub upto : i ≤ length d
-  pub same : length values ≡ length d
-  pub left : numbers_in (length d) s ≡ prepend (take i values) (numbers_in (length d - i) (drop (12 * i) s))
+-- the first i of k places hold the numbers of the first i fields
+pub record Gathering (s : List ℕ) (k : ℕ) (values : List ℕ) (i : ℕ) : Type 0 where
+  pub room : 12 * k ≤ length s
+  pub same : length values ≡ k
+  pub left : numbers_in k s ≡ prepend (take i values) (numbers_in (k - i) (drop (12 * i) s))
 
-pub gathering_none : (s d : List ℕ) → 12 * length d ≤ length s → Gathering s d d 0
-gathering_none s d h =
-    let z : length d - 0 ≡ length d = omega arith in
-    record { room = h; upto = omega arith; same = refl; left = rw z (sym (prepend_nil (numbers_in (length d) s))) }
+pub gathering_none : (s : List ℕ) (k : ℕ) (values : List ℕ) → 12 * k ≤ length s → length values ≡ k → Gathering s k values 0
+gathering_none s k values h l =
+    let z : k - 0 ≡ k = omega arith in
+    record { room = h; same = l; left = rw z (sym (prepend_nil (numbers_in k s))) }
 
-module _ (s d values : List ℕ) (i : ℕ) (g : Gathering s d values i) (h : i < length d) where
-  next : numbers_in (length d - i) (drop (12 * i) s) ≡ with_number (field_number (take 12 (drop (12 * i) s))) (numbers_in (length d - (i + 1)) (drop (12 * (i + 1)) s))
+module _ (s : List ℕ) (k : ℕ) (values : List ℕ) (i : ℕ) (g : Gathering s k values i) (h : i < k) where
+  next : numbers_in (k - i) (drop (12 * i) s) ≡ with_number (field_number (take 12 (drop (12 * i) s))) (numbers_in (k - (i + 1)) (drop (12 * (i + 1)) s))
   unfolding numbers_in
   next =
-      let k : length d - i ≡ suc (length d - (i + 1)) = omega arith in
+      let e : k - i ≡ suc (k - (i + 1)) = omega arith in
       let m : 12 * (i + 1) ≡ 12 * i + 12 = omega arith in
-      rw (k, drop-drop 12 (12 * i) s, m)
+      rw (e, drop-drop 12 (12 * i) s, m)
 
-  pub gathering_more : (n : ℕ) → field_number (take 12 (drop (12 * i) s)) ≡ Some n → Gathering s d (set values i n) (i + 1)
+  pub gathering_more : (n : ℕ) → field_number (take 12 (drop (12 * i) s)) ≡ Some n → Gathering s k (set values i n) (i + 1)
   unfolding with_number
   gathering_more n e =
-      let same : length values ≡ length d = g.same in
+      let same : length values ≡ k = g.same in
       let t : take (i + 1) (set values i n) ≡ take i values ++ (n ∷ []) = rw (add-one i) (take-suc-set values i n (omega arith)) in
       record {
         room = g.room;
-        upto = omega arith;
         same = length-set values i n ∙ same;
         left = g.left ∙ rw (next, e, prepend-prepend (take i values) (n ∷ []), t);
       }
 
-  pub gathering_wrong : field_number (take 12 (drop (12 * i) s)) ≡ None → none ≡ numbers_in (length d) s
+  pub gathering_wrong : field_number (take 12 (drop (12 * i) s)) ≡ None → None ≡ numbers_in k s
   unfolding with_number prepend
   gathering_wrong e = sym (g.left ∙ rw (next, e))
 
-pub gathering_all : (s d values : List ℕ) (i : ℕ) → Gathering s d values i → length d ≤ i → some values ≡ numbers_in (length d) s
+pub gathering_all : (s : List ℕ) (k : ℕ) (values : List ℕ) (i : ℕ) → Gathering s k values i → k ≤ i → Some values ≡ numbers_in k s
 unfolding numbers_in prepend
-gathering_all s d values i g h =
-    let z : length d - i ≡ 0 = omega arith in
-    let same : length values ≡ length d = g.same in
+gathering_all s k values i g h =
+    let z : k - i ≡ 0 = omega arith in
+    let same : length values ≡ k = g.same in
     sym (g.left ∙ rw (z, take_all i values (omega arith), append-nil))
+
+-- what the checks of `numbers_in` and of `write_numbers` need
+pub ruleset gathered = (gathering_wrong, gathering_all)
+
+pub ruleset put = (putting_none, putting_more, putting_all)
 
 -- ---- both ways
 
@@ -115,7 +107,7 @@ unfoldable pub Held : List ℕ → Type 0
 Held [] = Unit
 Held (n ∷ ns) = (n < 1000000000000) × Held ns
 
-pub numbers-back : (ns rest : List ℕ) → Held ns → numbers_in (length ns) (fields ns ++ rest) ≡ some ns
+pub numbers-back : (ns rest : List ℕ) → Held ns → numbers_in (length ns) (fields ns ++ rest) ≡ Some ns
 unfolding fields numbers_in with_number prepend Held
 numbers-back [] rest h = refl
 numbers-back (n ∷ ns) rest h =
@@ -129,16 +121,16 @@ pub record Readable (k : ℕ) (s ns : List ℕ) : Type 0 where
   pub count : length ns ≡ k
   pub text : take (12 * k) s ≡ fields ns
 
-pub numbers-only : (k : ℕ) (s ns : List ℕ) → 12 * k ≤ length s → numbers_in k s ≡ some ns → Readable k s ns
+pub numbers-only : (k : ℕ) (s ns : List ℕ) → 12 * k ≤ length s → numbers_in k s ≡ Some ns → Readable k s ns
 unfolding fields numbers_in with_number prepend
 numbers-only zero s ns h e = let z : [] ≡ ns = cc in record { count = sym (ap length z); text = ap fields z }
 numbers-only (suc k) s ns h e =
     go (numbers-only k (drop 12 s)) (field_number (take 12 s)) (numbers_in k (drop 12 s)) refl refl e
   where
-    go : ((ms : List ℕ) → 12 * k ≤ length (drop 12 s) → numbers_in k (drop 12 s) ≡ some ms → Readable k (drop 12 s) ms) → (o : Opt) (m : Option (List ℕ)) → field_number (take 12 s) ≡ o → numbers_in k (drop 12 s) ≡ m → with_number o m ≡ some ns → Readable (suc k) s ns
+    go : ((ms : List ℕ) → 12 * k ≤ length (drop 12 s) → numbers_in k (drop 12 s) ≡ Some ms → Readable k (drop 12 s) ms) → (o : Option ℕ) (m : Option (List ℕ)) → field_number (take 12 s) ≡ o → numbers_in k (drop 12 s) ≡ m → with_number o m ≡ Some ns → Readable (suc k) s ns
     go ih None m p q e = let z : ◌≡◌ {A = ℕ} 0 1 = cc in absurd (omega arith)
-    go ih (Some n) none p q e = let z : ◌≡◌ {A = ℕ} 0 1 = cc in absurd (omega arith)
-    go ih (Some n) (some ms) p q e =
+    go ih (Some n) None p q e = let z : ◌≡◌ {A = ℕ} 0 1 = cc in absurd (omega arith)
+    go ih (Some n) (Some ms) p q e =
         let z : n ∷ ms ≡ ns = cc in
         let r : Readable k (drop 12 s) ms = ih ms (omega (arith, length-drop 12 s)) q in
         let l : length (take 12 s) ≡ 12 = length-take-le 12 s (omega arith) in

@@ -1,20 +1,20 @@
 // The settings as one line of text (02, point 13): the reader, the writer, and the theorems that join them.
 #![tactic(auto)]
 
-ghost use Rattle.std.specs.Prelude.{◌≡◌, cond, [], ◌∷◌, ◌+◌, ◌*◌, ◌≤◌, ◌<◌, length, get_or};
-ghost use Rattle.std.proofs.Math.Option.{none, some};
+ghost use Rattle.std.specs.Prelude.{◌≡◌, ◌*◌, ◌≤◌, ◌<◌, length, get_or};
 ghost use Rattle.words.specs.Words.{over};
+ghost use Rattle.refusals.specs.Refusals.{numbered};
 ghost use Rattle.settings_line.specs.Fields.{numbers_of, settings_of, zeros_outside};
 ghost use Rattle.settings_line.specs.Line.{fields, numbers_in, line_numbers, taken as taken_of, begins, read_first, read_second, read_line, outcome, write_line};
 ghost use Rattle.settings_line.specs.Claims.{ReadsBack, OnlyLine, AsTheOpening};
 
 use config::{RtpInboundStreamDynamicConfig, Settings};
-use rtp::opt::Opt;
+use refusals::Refusal;
 
 // Columns of a field.
 const WIDTH: usize = 12;
 
-const LINE_FEED: u8 = 10;
+const LINE_FEED: u8 = b'\n';
 
 // Bytes of a line that is written: twelve fields and the line feed.
 const LENGTH: usize = 145;
@@ -22,20 +22,9 @@ const LENGTH: usize = 145;
 // The largest number that the record's narrower fields hold.
 const MAX_U32: u64 = 4294967295;
 
-#[derive(Clone, Copy)]
-pub enum ReadSettings {
-    Settings(Settings),
-    Refused(u64),
-}
-
-// How many bytes were written, or the number of the refusal.
-#[derive(Clone, Copy)]
-pub enum WroteSettings {
-    Bytes(usize),
-    Refused(u64),
-}
-
 // "The fixed delay is 0 outside mode 1, the last three are 0 outside mode 2."
+// Stays: eleven numbers in the order of the line's fields, as the law counts them.
+#[tactic(auto, unfolding(crate::specs::Fields::zeros_outside))]
 fn zeros_outside(n: [u64; 11]) -> bool
     ensures { result ≡ zeros_outside n }
 {
@@ -45,6 +34,7 @@ fn zeros_outside(n: [u64; 11]) -> bool
 // ---- read
 
 // Whether a line begins with the field of this version.
+#[tactic(auto, using(crate::proofs::Lines::version))]
 fn is_version(line: &[u8], version: u64) -> bool
     requires { version < 10 }
     ensures { result ≡ begins version line.now }
@@ -52,48 +42,44 @@ fn is_version(line: &[u8], version: u64) -> bool
     if line.len() < WIDTH {
         return false;
     }
-    let Opt::Some(n) = columns::read(&line[..WIDTH]) else {
-        return false;
-    };
-    n == version
+    columns::read(&line[..WIDTH]) == Some(version)
 }
 
-// Whether as many fields as there are places are numbers: they are put there. Where one is not, what the places hold is left open.
-fn are_numbers(fields: &[u8], values: &mut [u64]) -> bool
-    requires { 12 * length values.old ≤ length fields.now }
-    ensures { cond result (some values.new) none ≡ numbers_in (length values.old) fields.now }
+// The numbers of the first N fields, if each is one.
+#[tactic(auto, using(crate::proofs::Numbered::gathered))]
+fn numbers_in<const N: usize>(fields: &[u8]) -> Option<[u64; N]>
+    requires { (N ≤ 11) × (12 * N ≤ length fields.now) }
+    ensures { result ≡ numbers_in N fields.now }
 {
-    let mut i = 0;
-    while i < values.len() {
+    let mut values = [0u64; N];
+    for i in 0..N {
         let at = WIDTH * i;
-        let end = at + WIDTH;
-        let Opt::Some(n) = columns::read(&fields[at..end]) else {
-            return false;
-        };
-        values[i] = n;
-        i += 1;
+        values[i] = columns::read(&fields[at..at + WIDTH])?;
     }
-    true
+    Some(values)
 }
 
-// Whether a line is as long as its version with as many fields as there are places, ends as a line and has numbers in them.
-fn line_numbers(line: &[u8], values: &mut [u64]) -> bool
-    requires { length values.old ≤ 11 }
-    ensures { cond result (some values.new) none ≡ line_numbers (length values.old) line.now }
+// The numbers of a line, if it is as long as its version with N of them, ends as a line and has numbers in its fields.
+#[tactic(auto, using(crate::proofs::Lines::whole_line))]
+fn line_numbers<const N: usize>(line: &[u8]) -> Option<[u64; N]>
+    requires { N ≤ 11 }
+    ensures { result ≡ line_numbers N line.now }
 {
-    let end = WIDTH * (values.len() + 1);
+    let end = WIDTH * (N + 1);
     if line.len() != end + 1 {
-        return false;
+        return None;
     }
     if line[end] != LINE_FEED {
-        return false;
+        return None;
     }
-    are_numbers(&line[WIDTH..], values)
+    numbers_in(&line[WIDTH..])
 }
 
+// Stays: eleven numbers in the order of the line's fields, as the law counts them.
+#[tactic(auto, unfolding(crate::specs::Fields::settings_of))]
 fn settings_of(n: [u64; 11]) -> Settings
-    requires n_bound { get_or n 1 0 ≤ 4294967295 }
-    requires n_bound_2 { get_or n 7 0 ≤ 4294967295 }
+    requires clock_rate_fits { get_or n 1 0 ≤ 4294967295 }
+    requires max_attempts_fits { get_or n 7 0 ≤ 4294967295 }
     ensures { result ≡ settings_of n }
 {
     let dynamic = RtpInboundStreamDynamicConfig {
@@ -115,52 +101,52 @@ fn settings_of(n: [u64; 11]) -> Settings
 }
 
 // The settings with these numbers, or refusal 1.
-fn taken(version: u64, n: [u64; 11]) -> ReadSettings
-    ensures { result ≡ taken_of version n }
+// Stays: eleven numbers in the order of the line's fields, as the law counts them.
+#[tactic(auto, using(crate::proofs::Ranges::neither, crate::proofs::Lines::too_wide), unfolding(crate::specs::Line::taken))]
+fn taken(version: u64, n: [u64; 11]) -> Result<Settings, Refusal>
+    ensures { numbered result ≡ taken_of version n }
 {
     if version < n[0] {
-        return ReadSettings::Refused(refusals::SETTINGS);
+        return Err(Refusal::Settings);
     }
     if !zeros_outside(n) {
-        return ReadSettings::Refused(refusals::SETTINGS);
+        return Err(Refusal::Settings);
     }
     if (MAX_U32 < n[1]) | (MAX_U32 < n[7]) {
-        return ReadSettings::Refused(refusals::SETTINGS);
+        return Err(Refusal::Settings);
     }
     let s = settings_of(n);
     if s.is_valid() {
-        ReadSettings::Settings(s)
+        Ok(s)
     } else {
-        ReadSettings::Refused(refusals::SETTINGS)
+        Err(Refusal::Settings)
     }
 }
 
 // A line whose version is 1: of its nine numbers the last, `nack_window`, is discarded.
-fn read_first(line: &[u8]) -> ReadSettings
-    ensures { result ≡ read_first (line_numbers 9 line.now) }
+// Stays: eleven numbers in the order of the line's fields, as the law counts them.
+#[tactic(auto, using(refusals::proofs::Laws::passed_on, crate::proofs::Lines::first_unread, crate::proofs::Lines::first_taken))]
+fn read_first(line: &[u8]) -> Result<Settings, Refusal>
+    ensures { numbered result ≡ read_first (line_numbers 9 line.now) }
 {
-    let mut n = [0u64; 9];
-    if !line_numbers(line, &mut n) {
-        return ReadSettings::Refused(refusals::SETTINGS_LINE);
-    }
+    let n = line_numbers::<9>(line).ok_or(Refusal::SettingsLine)?;
     let kept = [n[0], n[1], n[2], n[3], n[4], n[5], n[6], n[7], 0, 0, 0];
     taken(1, kept)
 }
 
 // A line whose version is 2.
-fn read_second(line: &[u8]) -> ReadSettings
-    ensures { result ≡ read_second (line_numbers 11 line.now) }
+#[tactic(auto, using(refusals::proofs::Laws::passed_on, crate::proofs::Lines::second_unread, crate::proofs::Lines::second_taken))]
+fn read_second(line: &[u8]) -> Result<Settings, Refusal>
+    ensures { numbered result ≡ read_second (line_numbers 11 line.now) }
 {
-    let mut n = [0u64; 11];
-    if !line_numbers(line, &mut n) {
-        return ReadSettings::Refused(refusals::SETTINGS_LINE);
-    }
+    let n = line_numbers::<11>(line).ok_or(Refusal::SettingsLine)?;
     taken(2, n)
 }
 
 // The settings that a line keeps; 21, 20 or 1 where it keeps none.
-pub fn read_line(line: &[u8]) -> ReadSettings
-    ensures { result ≡ read_line line.now }
+#[tactic(auto, unfolding(crate::specs::Line::read_line))]
+pub fn read_line(line: &[u8]) -> Result<Settings, Refusal>
+    ensures { numbered result ≡ read_line line.now }
 {
     if is_version(line, 1) {
         return read_first(line);
@@ -168,38 +154,27 @@ pub fn read_line(line: &[u8]) -> ReadSettings
     if is_version(line, 2) {
         return read_second(line);
     }
-    ReadSettings::Refused(refusals::LINE_VERSION)
+    Err(Refusal::LineVersion)
 }
 
 // ---- written
 
-fn wide(n: u32) -> u64
-    ensures { result ≡ n }
-{
-    n as u64
-}
-
-fn wide_size(n: usize) -> u64
-    ensures { result ≡ n }
-{
-    n as u64
-}
-
 // The numbers of the fields after the version.
+#[tactic(auto, unfolding(crate::specs::Fields::numbers_of))]
 fn numbers(s: Settings) -> [u64; 11]
     ensures { result ≡ numbers_of s }
 {
     let mode = s.mode;
     let dynamic = mode.dynamic();
     [
-        wide(mode.number()),
-        wide(s.clock_rate),
-        wide_size(s.max_entries),
-        wide_size(s.max_gaps),
+        u64::from(mode.number()),
+        u64::from(s.clock_rate),
+        s.max_entries as u64,
+        s.max_gaps as u64,
         s.delay,
         s.initial_nack_delay,
         s.default_nack_resend_delay,
-        wide(s.max_nack_attempts),
+        u64::from(s.max_nack_attempts),
         dynamic.min,
         dynamic.max,
         dynamic.target_recovery,
@@ -207,42 +182,45 @@ fn numbers(s: Settings) -> [u64; 11]
 }
 
 // Puts numbers into fields, one after the other from the front of `out`.
+#[tactic(auto, using(crate::proofs::Numbered::put))]
 fn write_numbers(numbers: &[u64], out: &mut [u8])
     requires { 12 * length numbers.now ≤ length out.old }
     ensures { out.new ≡ over (fields numbers.now) out.old }
 {
-    let mut i = 0;
-    while i < numbers.len() {
+    // Stays: the place of a field hangs on the index too.
+    for i in 0..numbers.len() {
         columns::write_at(out, WIDTH * i, WIDTH, numbers[i]);
-        i += 1;
     }
 }
 
-// Writes the line of these settings; 1, then 15, where none is written. Bytes after the line stay.
-pub fn write_line(s: Settings, out: &mut [u8]) -> WroteSettings
-    ensures { outcome result out.new ≡ write_line s out.old }
+// Writes the line of these settings; 1, then 15, where none is written. Bytes after the line stay. How many bytes the line has.
+// Stays: eleven numbers in the order of the line's fields, as the law counts them.
+#[tactic(auto, using(crate::proofs::Lines::written_line), unfolding(crate::specs::Line::write_line, crate::specs::Fields::line_valid))]
+pub fn write_line(s: Settings, out: &mut [u8]) -> Result<usize, Refusal>
+    ensures { outcome (numbered result) out.new ≡ write_line s out.old }
 {
     if !s.is_valid() {
-        return WroteSettings::Refused(refusals::SETTINGS);
+        return Err(Refusal::Settings);
     }
     let n = numbers(s);
     if !zeros_outside(n) {
-        return WroteSettings::Refused(refusals::SETTINGS);
+        return Err(Refusal::Settings);
     }
     if out.len() < LENGTH {
-        return WroteSettings::Refused(refusals::OUTPUT);
+        return Err(Refusal::Output);
     }
     let line = [
         2, n[0], n[1], n[2], n[3], n[4], n[5], n[6], n[7], n[8], n[9], n[10],
     ];
     write_numbers(&line, out);
     out[LENGTH - 1] = LINE_FEED;
-    WroteSettings::Bytes(LENGTH)
+    Ok(LENGTH)
 }
 
 // ---- theorems
 
 // Every line that the writer makes reads back to the same settings.
+#[tactic(auto, using(crate::proofs::Lines::made_back))]
 pub fn reads_back()
     ensures { ReadsBack }
 {}
@@ -253,6 +231,7 @@ pub fn only_line()
 {}
 
 // What is read the opening takes, and what it takes is written, but for zeros.
+#[tactic(auto, using(crate::proofs::Lines::opening))]
 pub fn as_the_opening()
     ensures { AsTheOpening }
 {}

@@ -1,12 +1,10 @@
 -- The settings of a line as plain numbers: what they stand for and how they are written, and the line's reader and writer on them.
-use Rattle.std.specs.Prelude.{◌≡◌, Bool, true, cond, ◌&&◌, ◌||◌, List, ℕ, eqb, ltb}
+use Rattle.std.specs.Prelude.{◌≡◌, Bool, true, cond, ◌&&◌, ◌||◌, List, ℕ, eqb, ltb, Result, Ok, Err}
 use Rattle.refusals.specs.Refusals.{SETTINGS}
 use Rattle.config.specs.declared.Settings.{Settings}
 use Rattle.config.specs.Mode.{mode_of, mode_number, dynamic_of}
 use Rattle.settings_line.specs.Line as Line
 use Rattle.settings_line.specs.Line.{read_line, write_line}
-use Rattle.settings_line.specs.declared.ReadSettings.{ReadSettings}
-use Rattle.settings_line.specs.declared.WroteSettings.{WroteSettings}
 use Rattle.settings_words.specs.declared.SettingsWords.{SettingsWords}
 use Rattle.settings_words.specs.declared.SettingsRead.{SettingsRead}
 use Rattle.settings_words.specs.declared.SettingsWritten.{SettingsWritten}
@@ -48,18 +46,18 @@ no_settings =
 
 -- ---- the reader
 
-unfoldable pub told : ReadSettings → SettingsRead
-told (ReadSettings.Settings s) = record { refusal = 0; settings = words_of s }
-told (ReadSettings.Refused k) = record { refusal = k; settings = no_settings }
+unfoldable pub told : Result Settings ℕ → SettingsRead
+told (Ok s) = record { refusal = 0; settings = words_of s }
+told (Err k) = record { refusal = k; settings = no_settings }
 
 unfoldable pub read_words : List ℕ → SettingsRead
 read_words line = told (read_line line)
 
 -- ---- the writer
 
-unfoldable pub wrote_words : WroteSettings → SettingsWritten
-wrote_words (WroteSettings.Bytes n) = record { refusal = 0; bytes = n }
-wrote_words (WroteSettings.Refused k) = record { refusal = k; bytes = 0 }
+unfoldable pub wrote_words : Result ℕ ℕ → SettingsWritten
+wrote_words (Ok n) = record { refusal = 0; bytes = n }
+wrote_words (Err k) = record { refusal = k; bytes = 0 }
 
 -- an answer in words, with what the lent output then holds
 pub record Outcome : Type 0 where

@@ -2,15 +2,17 @@
 #![tactic(auto)]
 
 ghost use Rattle.std.specs.Prelude.{◌≡◌};
-ghost use Rattle.settings_words.specs.Words.{settings_of, words_of, no_settings, told, read_words, outcome, wrote_words, mode_fits, write_words, Kept};
+ghost use Rattle.refusals.specs.Refusals.{numbered};
+ghost use Rattle.settings_words.specs.Words.{read_words, outcome, wrote_words, mode_fits, write_words, Kept};
 
 use config::{RtpInboundStreamDynamicConfig, Settings};
-use settings_line::{ReadSettings, WroteSettings};
+use refusals::Refusal;
 
 // `mode` is 0 for Passthrough, 1 for a fixed delay, 2 for a dynamic one. `min_delay`, `max_delay` and `target_recovery` are of mode 2 and 0
 // outside it.
+// Stays: of the C interface.
 #[repr(C)]
-#[derive(Clone, Copy)]
+#[derive(Clone, Copy, Default)]
 pub struct SettingsWords {
     pub delay: u64,
     pub initial_nack_delay: u64,
@@ -26,6 +28,7 @@ pub struct SettingsWords {
 }
 
 // Settings of zeros where the line was refused.
+// Stays: of the C interface.
 #[repr(C)]
 #[derive(Clone, Copy)]
 pub struct SettingsRead {
@@ -34,6 +37,7 @@ pub struct SettingsRead {
 }
 
 // How many bytes of the output are the line.
+// Stays: of the C interface.
 #[repr(C)]
 #[derive(Clone, Copy)]
 pub struct SettingsWritten {
@@ -43,103 +47,93 @@ pub struct SettingsWritten {
 
 // ---- read
 
-fn words_of(s: Settings) -> SettingsWords
-    ensures { result ≡ words_of s }
-{
-    let mode = s.mode;
-    let dynamic = mode.dynamic();
-    SettingsWords {
-        delay: s.delay,
-        initial_nack_delay: s.initial_nack_delay,
-        default_nack_resend_delay: s.default_nack_resend_delay,
-        min_delay: dynamic.min,
-        max_delay: dynamic.max,
-        target_recovery: dynamic.target_recovery,
-        max_entries: s.max_entries,
-        max_gaps: s.max_gaps,
-        clock_rate: s.clock_rate,
-        max_nack_attempts: s.max_nack_attempts,
-        mode: mode.number(),
-    }
-}
+impl From<Settings> for SettingsWords {
+    ghost use Rattle.settings_words.specs.Words.{words_of};
 
-fn no_settings() -> SettingsWords
-    ensures { result ≡ no_settings }
-{
-    SettingsWords {
-        delay: 0,
-        initial_nack_delay: 0,
-        default_nack_resend_delay: 0,
-        min_delay: 0,
-        max_delay: 0,
-        target_recovery: 0,
-        max_entries: 0,
-        max_gaps: 0,
-        clock_rate: 0,
-        max_nack_attempts: 0,
-        mode: 0,
-    }
-}
+    ghost from_gives = { λ s w. w ≡ words_of s };
 
-fn read_told(answer: ReadSettings) -> SettingsRead
-    ensures { result ≡ told answer }
-{
-    match answer {
-        ReadSettings::Settings(s) => {
-            let settings = words_of(s);
-            SettingsRead {
-                refusal: 0,
-                settings,
-            }
-        }
-        ReadSettings::Refused(refusal) => {
-            let settings = no_settings();
-            SettingsRead { refusal, settings }
+    #[tactic(auto, unfolding(crate::specs::Words::words_of))]
+    // Stays: field by field, since the words are of the C interface and have no enum.
+    fn from(s: Settings) -> SettingsWords {
+        let mode = s.mode;
+        let dynamic = mode.dynamic();
+        SettingsWords {
+            delay: s.delay,
+            initial_nack_delay: s.initial_nack_delay,
+            default_nack_resend_delay: s.default_nack_resend_delay,
+            min_delay: dynamic.min,
+            max_delay: dynamic.max,
+            target_recovery: dynamic.target_recovery,
+            max_entries: s.max_entries,
+            max_gaps: s.max_gaps,
+            clock_rate: s.clock_rate,
+            max_nack_attempts: s.max_nack_attempts,
+            mode: mode.number(),
         }
     }
 }
 
 // The settings that a line keeps, or 21, 20 or 1.
+#[tactic(auto, unfolding(crate::specs::Words::read_words, crate::specs::Words::told, crate::specs::Words::no_settings))]
 pub fn read(line: &[u8]) -> SettingsRead
     ensures { result ≡ read_words line.now }
 {
-    let answer = settings_line::read_line(line);
-    read_told(answer)
+    match settings_line::read_line(line) {
+        Ok(s) => SettingsRead {
+            refusal: 0,
+            settings: SettingsWords::from(s),
+        },
+        Err(refusal) => SettingsRead {
+            refusal: refusal.number(),
+            settings: SettingsWords::default(),
+        },
+    }
 }
 
 // ---- written
 
-fn settings_of(w: SettingsWords) -> Settings
-    ensures { result ≡ settings_of w }
-{
-    let dynamic = RtpInboundStreamDynamicConfig {
-        min: w.min_delay,
-        max: w.max_delay,
-        target_recovery: w.target_recovery,
-    };
-    let mode = config::mode_of(w.mode as u64, dynamic);
-    Settings {
-        mode,
-        clock_rate: w.clock_rate,
-        max_entries: w.max_entries,
-        max_gaps: w.max_gaps,
-        delay: w.delay,
-        initial_nack_delay: w.initial_nack_delay,
-        default_nack_resend_delay: w.default_nack_resend_delay,
-        max_nack_attempts: w.max_nack_attempts,
+impl From<SettingsWords> for Settings {
+    ghost use Rattle.settings_words.specs.Words.{settings_of};
+
+    ghost from_gives = { λ w s. s ≡ settings_of w };
+
+    #[tactic(auto, unfolding(crate::specs::Words::settings_of))]
+    // Stays: field by field, since the words are of the C interface and have no enum.
+    fn from(w: SettingsWords) -> Settings {
+        let dynamic = RtpInboundStreamDynamicConfig {
+            min: w.min_delay,
+            max: w.max_delay,
+            target_recovery: w.target_recovery,
+        };
+        let mode = config::mode_of(u64::from(w.mode), dynamic);
+        Settings {
+            mode,
+            clock_rate: w.clock_rate,
+            max_entries: w.max_entries,
+            max_gaps: w.max_gaps,
+            delay: w.delay,
+            initial_nack_delay: w.initial_nack_delay,
+            default_nack_resend_delay: w.default_nack_resend_delay,
+            max_nack_attempts: w.max_nack_attempts,
+        }
     }
 }
 
-fn write_told(answer: WroteSettings) -> SettingsWritten
-    ensures { result ≡ wrote_words answer }
+#[tactic(auto, unfolding(crate::specs::Words::wrote_words))]
+fn write_told(answer: Result<usize, Refusal>) -> SettingsWritten
+    ensures { result ≡ wrote_words (numbered answer) }
 {
     match answer {
-        WroteSettings::Bytes(bytes) => SettingsWritten { refusal: 0, bytes },
-        WroteSettings::Refused(refusal) => SettingsWritten { refusal, bytes: 0 },
+        Ok(bytes) => SettingsWritten { refusal: 0, bytes },
+        Err(refusal) => SettingsWritten {
+            refusal: refusal.number(),
+            bytes: 0,
+        },
     }
 }
 
 // "The .. last three are 0 outside mode 2": settings of another mode have no place for them.
+#[tactic(auto, unfolding(crate::specs::Words::mode_fits))]
 fn mode_fits(w: SettingsWords) -> bool
     ensures { result ≡ mode_fits w }
 {
@@ -148,18 +142,14 @@ fn mode_fits(w: SettingsWords) -> bool
 }
 
 // Writes the line of these settings; a mode that is none, or words that its settings have no place for, are refused under 1 too.
+#[tactic(auto, unfolding(crate::specs::Words::write_words, crate::specs::Words::wrote_words))]
 pub fn write(w: SettingsWords, out: &mut [u8]) -> SettingsWritten
     ensures { outcome result out.new ≡ write_words w out.old }
 {
     if !mode_fits(w) {
-        return SettingsWritten {
-            refusal: refusals::SETTINGS,
-            bytes: 0,
-        };
+        return write_told(Err(Refusal::Settings));
     }
-    let s = settings_of(w);
-    let answer = settings_line::write_line(s, out);
-    write_told(answer)
+    write_told(settings_line::write_line(Settings::from(w), out))
 }
 
 // What the reader gives, the writer takes for the same settings.

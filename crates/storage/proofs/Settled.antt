@@ -14,8 +14,11 @@ use Rattle.words.specs.Order.{ascends}
 use Rattle.words.specs.Blocks.{laid}
 use Rattle.words.proofs.Ordered.{and_left, and_right}
 use Rattle.durations.specs.Seconds.{largest}
-use Rattle.refusals.specs.Refusals.{SESSION, refuse_if, or_else}
-use Rattle.refusals.proofs.Laws.{or_else-first, or_else_second, passes-last}
+use Rattle.std.specs.Prelude.{Result, IsErrAnd}
+use Rattle.std.proofs.lemmas.Result.{err_from_is_err_and}
+use Rattle.refusals.specs.declared.Refusal.{Refusal}
+use Rattle.refusals.specs.Refusals.{SESSION, number, refuse_if, or_else}
+use Rattle.refusals.proofs.Laws.{or_else-first, or_else_second, passes-last, number-nonzero}
 use Rattle.config.specs.Valid.{settings_valid, senders_valid}
 use Rattle.config.proofs.Facts.{Usable}
 use Rattle.model.specs.declared.Session.{Session}
@@ -24,7 +27,7 @@ use Rattle.model.specs.Records.{Entry, Gap, Remembered, entry_numbers, gap_numbe
 use Rattle.model.specs.Valid.{bounds_of, queue_sound, lists_sound, last_sound}
 use Rattle.model.specs.Storage.{Storage, Stored, entry_words_of, payload_bytes_of, gap_words_of, remembered_words_of, entry_places, lengths_fit, entries_of, gaps_of, remembered_of, entries_laid, payloads_laid, gaps_laid, remembered_laid, parse, write}
 use Rattle.model.specs.Calls as Calls
-use Rattle.model.specs.Calls.{Call, rtx_stats, taken, output_of}
+use Rattle.model.specs.Calls.{Answer, Call, rtx_stats, taken, output_of}
 use Rattle.model.specs.Table.{config_valid, session_sound, session_refusal, call_refusal, refusal}
 use Rattle.model.specs.Did.{did, accepted, turned_back}
 use Rattle.model.proofs.Lists.{Each}
@@ -38,7 +41,7 @@ use Rattle.packet_gaps.proofs.Model.{sound-instants}
 use Rattle.entries.specs.Entries.{EntriesIn, fits}
 use Rattle.entries.proofs.Model.{sound-fits}
 use Rattle.lost_nacked.specs.Remembered.{RememberedIn}
-use Rattle.model.specs.Contract.{storage, stored, Does}
+use Rattle.model.specs.Contract.{said, storage, stored, Does}
 use Rattle.storage.specs.Settled.{Settled}
 use Rattle.storage.proofs.Checking.{Lists, lists_of, Lengths, lengths_of, Counts, counts_of, Room, room_of, valid_usable, counted, session_is}
 
@@ -241,3 +244,7 @@ module _ (k : Call) (m : Stored) (r : ℕ) (e : r ≡ refusal k m) where
   pub accepted-is : r ≡ 0 → did k m ≡ accepted k (parse m)
   unfolding did
   accepted-is h = rw (← e, eq-eqb r 0 h)
+
+-- a refusal that `?` passes on
+pub refused-said : {A : Type 0} (f : A → Answer) (k : Call) (m : Stored) (r : Result A Refusal) (e : Refusal) → IsErrAnd r (λ x. x ≡ e) → number e ≡ refusal k m → Does k m (said f r) m (output_of k)
+refused-said f k m r e h g = let p = err_from_is_err_and r h in rw (p.1, p.2) (refused-is k m (number e) g (number-nonzero e))

@@ -1,2 +1,3 @@
 -- What a call finds after check 16.
+pub mod Held
 pub mod Settled

@@ -4,26 +4,17 @@ use native.Mathlib.Omega.{arith}
 use Rattle.burst.proofs.Ends.{falls, passes, goes_on, ends_over}
 use Rattle.burst.proofs.ends_fit.Goals as goal
 
-pub loop-i-init : goal.loop-i-init
-loop-i-init c = (omega arith, refl)
+pub loop-end-init : goal.loop-end-init
+loop-end-init c = (omega arith, refl)
 
 pub returns-then-end-from : goal.returns-then-end-from
-returns-then-end-from c =
-    let a = c.args in
-    sym (c.loop-i.invariant.1 ∙ falls a.bytes c.loop-i.from a.ends.now c.loop-i.i c.loop-i-test.true c.if-end-from.true)
+returns-then-end-from c = sym (c.loop-end.invariant.1 ∙ falls _ _ _ _ c.loop-end-test.true c.if-end-from.true)
 
 pub returns-then-bytes-end : goal.returns-then-bytes-end
-returns-then-bytes-end c =
-    let a = c.args in
-    sym (c.loop-i.invariant.1 ∙ passes a.bytes c.loop-i.from a.ends.now c.loop-i.i c.loop-i-test.true c.if-end-from.false c.if-bytes-end.true)
+returns-then-bytes-end c = sym (c.loop-end.invariant.1 ∙ passes _ _ _ _ c.loop-end-test.true c.if-end-from.false c.if-bytes-end.true)
 
-pub loop-i-preserved : goal.loop-i-preserved
-loop-i-preserved c =
-    let a = c.args in
-    let t = c.loop-i-test.true in
-    (omega arith, c.loop-i.invariant.1 ∙ goes_on a.bytes c.loop-i.from a.ends.now c.loop-i.i t c.if-end-from.false c.if-bytes-end.false)
+pub loop-end-preserved : goal.loop-end-preserved
+loop-end-preserved c = (omega arith, c.loop-end.invariant.1 ∙ goes_on _ _ _ _ c.loop-end-test.true c.if-end-from.false c.if-bytes-end.false)
 
 pub returns : goal.returns
-returns c =
-    let a = c.args in
-    sym (c.loop-i.invariant.1 ∙ ends_over a.bytes c.loop-i.from a.ends.now c.loop-i.i c.loop-i-test.false)
+returns c = sym (c.loop-end.invariant.1 ∙ ends_over _ _ _ _ c.loop-end-test.false)

@@ -1,30 +1,23 @@
 -- `push_burst` meets its contract: refused under 15, or the datagrams one after the other.
-use mathlib.Core.Path.{sym, ◌∙◌}
+use mathlib.Core.Path.{sym}
 use lib.ListN.{length}
-use Rattle.model.specs.Contract.{stored}
-use Rattle.model.specs.Storage.{Stored}
+use Rattle.storage.specs.Held.{held}
+use Rattle.push.proofs.Pushing.{passed}
 use Rattle.burst.proofs.Ends.{fit_of}
 use Rattle.burst.proofs.Fold.{burst-refused, burst-done}
 use Rattle.burst.proofs.push_burst.Goals as goal
 
-pub returns-then-refusal-ne0 : goal.returns-then-refusal-ne0
-returns-then-refusal-ne0 c =
-    let came : Stored = let a = c.args in
-    stored a.session a.entries.now a.payloads.now a.gaps.now a.remembered.now in
+pub returns-in_err-check_burst-clause-does : goal.returns-in_err-check_burst-clause-does
+returns-in_err-check_burst-clause-does c =
     let a = c.args in
-    burst-refused a.now a.buffer.now a.ends.now a.answers.now came _ c.burst_refusal-refusal.ensures c.if-refusal-ne0.true
+    rw (passed c.from_residual.result _ c.from_residual.ensures.1) (burst-refused a.now a.buffer.now a.ends.now a.answers.now (held a.q.now) _ c.in_err-check_burst.ensures)
 
-pub push_each-left-requires : goal.push_each-left-requires
-push_each-left-requires c =
-    let came : Stored = let a = c.args in
-    stored a.session a.entries.now a.payloads.now a.gaps.now a.remembered.now in
+pub push_each-requires : goal.push_each-requires
+push_each-requires c =
     let a = c.args in
-    record { stands = c.standing_of-standing.ensures came c.session_refusal-damaged.ensures; ends_value = fit_of (length a.buffer.now) a.ends.now (length a.answers.now) (sym c.burst_refusal-refusal.ensures ∙ c.if-refusal-ne0.false) }
+    record { stands = c.standing_of-first.ensures; ends_value = fit_of (length a.buffer.now) a.ends.now (length a.answers.now) (sym c.in_ok-check_burst.ensures) }
 
-pub returns : goal.returns
-returns c =
-    let came : Stored = let a = c.args in
-    stored a.session a.entries.now a.payloads.now a.gaps.now a.remembered.now in
+pub returns-clause-does : goal.returns-clause-does
+returns-clause-does c =
     let a = c.args in
-    burst-done a.now a.buffer.now a.ends.now a.answers.now came (sym c.burst_refusal-refusal.ensures ∙ c.if-refusal-ne0.false)
-    _ _ c.push_each-left.ensures.result_value c.push_each-left.ensures.answers_after
+    burst-done a.now a.buffer.now a.ends.now a.answers.now (held a.q.now) (sym c.in_ok-check_burst.ensures) _ _ c.push_each.ensures.left c.push_each.ensures.answers_after

@@ -1,58 +1,35 @@
 -- `push_next` meets its contract: refused under 16, or one of the two calls on what the session stands as.
-use mathlib.Core.Path.{◌≡◌, sym, subst}
-use mathlib.Core.List.{[]}
-use native.Mathlib.Omega.{arith}
-use Rattle.refusals.specs.Refusals.{SESSION}
-use Rattle.model.specs.Contract.{stored}
-use Rattle.model.specs.Storage.{Stored}
-use Rattle.push.specs.Answers.{media_answer}
+use mathlib.Core.Path.{sym}
+use Rattle.refusals.specs.declared.Refusal.TheVariants as Refusal
+use Rattle.storage.specs.Held.{held}
 use Rattle.push.proofs.Pushing.{push_damaged}
-use Rattle.burst.specs.declared.Standing.{Standing}
-use Rattle.burst.specs.declared.Standing.TheVariants.{Damaged, Sound, Settled}
 use Rattle.burst.specs.Standing.{Stands}
 use Rattle.burst.proofs.Steps.{stands_as, sound_next, settled_next}
+use borrow.Author.Rules.{rules}
 use Rattle.burst.proofs.push_next.Goals as goal
 
-pub push_checked-done-requires : goal.push_checked-done-requires
+pub push_checked-answer-requires : goal.push_checked-answer-requires
 unfolding Stands
-push_checked-done-requires c =
-    let came : Stored = let a = c.args in
-    stored a.held.session a.entries.now a.payloads.now a.gaps.now a.remembered.now in
-    let e : c.args.held.standing ≡ Sound = c.in-Sound.is in
-    subst (λ (x : Standing). Stands x came) e c.requires
+push_checked-answer-requires c = rw c.in-Sound.is at c.requires
 
-pub push_settled-done-requires : goal.push_settled-done-requires
+pub push_settled-answer-requires : goal.push_settled-answer-requires
 unfolding Stands
-push_settled-done-requires c =
-    let came : Stored = let a = c.args in
-    stored a.held.session a.entries.now a.payloads.now a.gaps.now a.remembered.now in
-    let e : c.args.held.standing ≡ Settled = c.in-Settled.is in
-    subst (λ (x : Standing). Stands x came) e c.requires
+push_settled-answer-requires c = rw c.in-Settled.is at c.requires
 
 pub returns-in-Damaged : goal.returns-in-Damaged
-unfolding Stands media_answer
+unfolding Stands
 returns-in-Damaged c =
-    let came : Stored = let a = c.args in
-    stored a.held.session a.entries.now a.payloads.now a.gaps.now a.remembered.now in
-    let a = c.args in
-    let e : a.held.standing ≡ Damaged = c.in-Damaged.is in
-    let h = subst (λ (x : Standing). Stands x came) e c.requires in
-    record { does = push_damaged a.instant a.datagram.now came SESSION (sym h) (λ z. omega arith); stands = c.requires }
+    let h = rw c.in-Damaged.is at c.requires in
+    record { same_slices = search rules; does = push_damaged c.args.instant c.args.datagram.now (held c.args.q.now) Refusal.Session (sym h); stands = c.requires }
 
 pub returns-in-Sound : goal.returns-in-Sound
 unfolding Stands
 returns-in-Sound c =
-    let came : Stored = let a = c.args in
-    stored a.held.session a.entries.now a.payloads.now a.gaps.now a.remembered.now in
-    let e : c.args.held.standing ≡ Sound = c.in-Sound.is in
-    let h = subst (λ (x : Standing). Stands x came) e c.requires in
-    record { does = c.push_checked-done.ensures; stands = stands_as _ _ _ c.after_sound-standing.ensures (sound_next _ came _ _ [] c.push_checked-done.ensures h) }
+    let r = c.push_checked-answer.ensures in
+    record { same_slices = r.same_slices; does = r.does; stands = stands_as _ _ _ c.after_sound-standing.ensures (sound_next _ _ _ _ _ r.does (rw c.in-Sound.is at c.requires)) }
 
 pub returns-in-Settled : goal.returns-in-Settled
 unfolding Stands
 returns-in-Settled c =
-    let came : Stored = let a = c.args in
-    stored a.held.session a.entries.now a.payloads.now a.gaps.now a.remembered.now in
-    let e : c.args.held.standing ≡ Settled = c.in-Settled.is in
-    let h = subst (λ (x : Standing). Stands x came) e c.requires in
-    record { does = c.push_settled-done.ensures; stands = stands_as _ Settled _ e (settled_next _ came _ _ [] c.push_settled-done.ensures h) }
+    let r = c.push_settled-answer.ensures in
+    record { same_slices = r.same_slices; does = r.does; stands = stands_as _ _ _ c.in-Settled.is (settled_next _ _ _ _ _ r.does (rw c.in-Settled.is at c.requires)) }

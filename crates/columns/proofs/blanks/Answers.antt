@@ -1,20 +1,15 @@
--- `blanks` meets its contract: what follows the blanks passed is what follows all of them.
-use mathlib.Core.Path.{sym, ◌∙◌}
-use native.Mathlib.Omega.{arith}
-use Rattle.columns.proofs.Reading.{blank_passed, blank_none, blank_end}
+-- `blanks`: the blanks passed are those that the definition drops.
+use Rattle.std.proofs.Common.{◌∙◌, eqb, rules, tests}
+use Rattle.std.proofs.lemmas.Iterator.{YieldsList-from_slice}
+use Rattle.std.proofs.lemmas.Iterator.Consumers.{count_from_yields_List}
+use Rattle.std.proofs.lemmas.Iterator.Search.{YieldsList-from_take_while}
+use Rattle.std.proofs.lemmas.List.Folds.{length-prefix_len}
+use Rattle.columns.proofs.Reading.{blanks_dropped}
 use Rattle.columns.proofs.blanks.Goals as goal
-
-pub returns-then-field-i-ne-BLANK : goal.returns-then-field-i-ne-BLANK
-returns-then-field-i-ne-BLANK c =
-    let s = c.args.field.now in
-    (omega arith, blank_none s c.loop-i.i (omega arith) (λ e. omega arith) ∙ c.loop-i.invariant.1)
-
-pub loop-i-preserved : goal.loop-i-preserved
-loop-i-preserved c =
-    let s = c.args.field.now in
-    (omega arith, sym (blank_passed s c.loop-i.i (omega arith) (omega arith)) ∙ c.loop-i.invariant.1)
 
 pub returns : goal.returns
 returns c =
-    let s = c.args.field.now in
-    (omega arith, blank_end s c.loop-i.i (omega arith) ∙ c.loop-i.invariant.1)
+    blanks_dropped c.args.field.now _
+    (count_from_yields_List c.take_while.result _ c.count.ensures.ran
+    (YieldsList-from_take_while _ (λ b. eqb b 32) (YieldsList-from_slice c.args.field.now cc) c.take_while.ensures.closure c.take_while.ensures.done (λ x b q k. search (rules, tests)))
+    ∙ length-prefix_len (λ b. eqb b 32) c.args.field.now)

@@ -2,28 +2,30 @@
 use mathlib.Core.Path.{sym, ap, ◌∙◌}
 use mathlib.Core.List.{List}
 use native.Mathlib.Omega.{arith}
+use lib.ListN.{length-take}
 use Rattle.words.specs.Words.{over}
 use Rattle.model.specs.Records.{Entry}
 use Rattle.model.specs.Calls.{payload_out}
-use Rattle.entries.proofs.Laws.{front_fits, front_is, words_dropped, bytes_dropped}
-use borrow.Author.Rules.{rules}
+use Rattle.entries.proofs.Laws.{front_fits, front_is}
 use Rattle.entries.proofs.pop_front.Goals as goal
 
-pub copy_out-requires : goal.copy_out-requires
-copy_out-requires c = let h = front_fits c.args.words.now c.args.bytes.now c.args.n c.requires.entries_in c.requires.n_nonzero.0 c.read-e.result c.read-e.ensures in
-    let k = c.requires.entries_in.places in
-    search rules
+pub slice_bounds-copy-end : goal.slice_bounds-copy-end
+slice_bounds-copy-end c = let h = front_fits c.requires.entries_in c.requires.n_nonzero.0 c.read-e.result c.read-e.ensures in omega (arith, c.requires.entries_in.places)
 
-pub remove-requires : goal.remove-requires
-remove-requires c = omega (arith, c.requires.entries_in.room)
+pub slice_bounds-copy-end-2 : goal.slice_bounds-copy-end-2
+slice_bounds-copy-end-2 c = let h = front_fits c.requires.entries_in c.requires.n_nonzero.0 c.read-e.result c.read-e.ensures in omega (arith, length-take c.read-e.result.size c.args.bytes.now, c.requires.entries_in.places)
 
-pub overflow_mul-n-2 : goal.overflow_mul-n-2
-overflow_mul-n-2 c = omega (arith, c.requires.entries_in.places)
+pub copy-requires : goal.copy-requires
+copy-requires c = let h = front_fits c.requires.entries_in c.requires.n_nonzero.0 c.read-e.result c.read-e.ensures in omega (arith, length-take c.read-e.result.size c.args.bytes.now)
 
-pub remove-requires-2 : goal.remove-requires-2
-remove-requires-2 c = omega (arith, c.requires.entries_in.places)
+pub returns-clause-size_bound : goal.returns-clause-size_bound
+returns-clause-size_bound c = front_fits c.requires.entries_in c.requires.n_nonzero.0 c.read-e.result c.read-e.ensures
 
-pub returns : goal.returns
+pub returns-clause-n_value : goal.returns-clause-n_value
+returns-clause-n_value c = front_is c.requires.entries_in c.requires.n_nonzero.0 c.read-e.result c.read-e.ensures
+
+pub returns-clause-out_after : goal.returns-clause-out_after
 unfolding payload_out
-returns c = let k = c.requires.entries_in in
-    let f = front_is c.args.words.now c.args.bytes.now c.args.n k c.requires.n_nonzero.0 c.read-e.result c.read-e.ensures in record { n_value = f; words_after = c.remove.ensures ∙ words_dropped c.args.words.now c.args.bytes.now c.args.n k c.requires.n_nonzero.0; bytes_after = c.remove-2.ensures ∙ bytes_dropped c.args.words.now c.args.bytes.now c.args.n k c.requires.n_nonzero.0; out_after = c.copy_out.ensures ∙ ap (λ (l : List Entry). over (payload_out l) c.args.out.now) (sym f); size_bound = front_fits c.args.words.now c.args.bytes.now c.args.n k c.requires.n_nonzero.0 c.read-e.result c.read-e.ensures }
+returns-clause-out_after c =
+    let f = front_is c.requires.entries_in c.requires.n_nonzero.0 c.read-e.result c.read-e.ensures in
+    c.copy.ensures ∙ ap (λ (l : List Entry). over (payload_out l) c.args.out.now) (sym f)

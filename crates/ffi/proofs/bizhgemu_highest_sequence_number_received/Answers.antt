@@ -1,23 +1,14 @@
 -- `bizhgemu_highest_sequence_number_received`: the queue's call on the session that the words stand for.
 use mathlib.Core.Path.{sym, ◌∙◌}
-use borrow.Author.Tests.{not-true, not-false}
 use Rattle.model.specs.Calls as Calls
-use Rattle.model.specs.Calls.{output_of}
 use Rattle.model.specs.Contract.{storage}
 use Rattle.ffi_words.specs.Told as Told
 use Rattle.ffi.specs.Exported.{alone}
-use Rattle.ffi.proofs.Given.{not-read, was_read}
-use mathlib.Core.Path.{ap}
-use mathlib.Core.Bool.{not}
+use Rattle.ffi.proofs.Given.{was_read}
+use borrow.Author.Rules.{rules}
 use Rattle.ffi.proofs.bizhgemu_highest_sequence_number_received.Goals as goal
-
-pub returns-then-not-readable : goal.returns-then-not-readable
-unfolding output_of
-returns-then-not-readable c =
-    let a = c.args in
-    not-read (alone Told.highest_told) Calls.highest_received a.session (storage a.entries.now a.payloads.now a.gaps.now a.remembered.now) _ (sym c.readable.ensures ∙ not-true _ (ap not c.if-not-readable.true)) c.highest_refused.ensures
 
 pub returns : goal.returns
 returns c =
     let a = c.args in
-    was_read (alone Told.highest_told) Calls.highest_received a.session (storage a.entries.now a.payloads.now a.gaps.now a.remembered.now) _ (sym c.readable.ensures ∙ not-false _ (ap not c.if-not-readable.false)) c.session_of-read.ensures c.highest_sequence_number_received-answer.ensures c.highest_told.ensures
+    was_read (alone Told.highest_told) Calls.highest_received a.session (storage a.entries.now a.payloads.now a.gaps.now a.remembered.now) _ {left = c.highest_sequence_number_received-answer.new.q.session} (sym c.in-Some.is ∙ c.read.ensures) (search rules) c.highest_told.ensures

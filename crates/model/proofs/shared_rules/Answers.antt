@@ -7,7 +7,7 @@ use native.Mathlib.Omega.{arith}
 use borrow.Author.Tests.{lt-ltb, le-leb, lt-leb, leb-false}
 use lib.Dec.{T, leb, ltb, le→leb, nltb→le}
 use lib.ListN.{length, length-drop, length-append}
-use Rattle.rtp.specs.declared.opt.Opt.TheVariants.{Some}
+use Rattle.std.specs.Prelude.{Some}
 use Rattle.config.specs.declared.RtpInboundStreamSortedQueueMode.{RtpInboundStreamSortedQueueMode}
 use Rattle.config.specs.declared.RtpInboundQueueMode.TheVariants.{Passthrough, SortedQueue}
 use Rattle.config.specs.declared.Settings.{Settings}

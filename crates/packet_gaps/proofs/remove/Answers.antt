@@ -5,22 +5,8 @@ use lib.ListN.{length}
 use Rattle.words.specs.Blocks.{laid}
 use Rattle.model.specs.Rules.{nacked_once, once_of}
 use Rattle.model.specs.Storage.{gap_words_of}
-use Rattle.packet_gaps.proofs.Laws.{firsts-ascend, found_in, found_is, without_is, gap_at, gaps_cut}
-use borrow.Author.Rules.{rules}
+use Rattle.packet_gaps.proofs.Laws.{found_in, found_is, without_is, gap_at, gaps_cut}
 use Rattle.packet_gaps.proofs.remove.Goals as goal
-
-pub rank_of-k-requires : goal.rank_of-k-requires
-rank_of-k-requires c = record { w_nonzero = search rules; n_value = firsts-ascend _ _ c.requires.n_value }
-
-pub read-g-requires : goal.read-g-requires
-read-g-requires c = omega (arith, found_in c.args.s.now c.args.n c.requires.n_value c.args.x.0 _ c.rank_of-k.ensures c.requires.n_value_2)
-
-pub overflow_mul-k : goal.overflow_mul-k
-overflow_mul-k c = omega (arith, found_in c.args.s.now c.args.n c.requires.n_value c.args.x.0 _ c.rank_of-k.ensures c.requires.n_value_2)
-
-pub remove-requires : goal.remove-requires
-remove-requires c = let h = found_in c.args.s.now c.args.n c.requires.n_value c.args.x.0 _ c.rank_of-k.ensures c.requires.n_value_2 in
-    omega arith
 
 pub returns : goal.returns
 unfolding once_of

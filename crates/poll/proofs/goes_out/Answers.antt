@@ -8,12 +8,16 @@ use Rattle.model.specs.Storage.{payload_bytes}
 use Rattle.poll.proofs.Fronts.{hands_none, hands_first}
 use Rattle.poll.proofs.goes_out.Goals as goal
 
-pub returns-then-n-eq0 : goal.returns-then-n-eq0
-returns-then-n-eq0 c = λ payloads. hands_none c.args.instant c.args.q c.args.entries.now payloads c.args.n c.if-n-eq0.true
+pub returns-then-q-eq0 : goal.returns-then-q-eq0
+returns-then-q-eq0 c =
+    let q = c.args.q.now in
+    hands_none c.args.instant q.session.queue q.entries.now q.payloads.now q.session.entries c.if-q-eq0.true
 
 pub returns : goal.returns
-returns c = λ payloads. let q = c.args.q in
+returns c =
+    let q = c.args.q.now in
+    let s = q.session.queue in
     c.ready.ensures
-    ∙ ap (λ (d : ℕ). ready_in q.config.settings.mode q.config.settings.clock_rate d q.last c.args.instant c.read-e.result.timestamp.0) c.requires.delay_value.0
-    ∙ ap (λ (e : Entry). ready c.args.q c.args.instant e.timestamp) (sym (c.read-e.ensures (take payload_bytes payloads)))
-    ∙ sym (hands_first c.args.instant c.args.q c.args.entries.now payloads c.args.n c.if-n-eq0.false)
+    ∙ ap (λ (d : ℕ). ready_in s.config.settings.mode s.config.settings.clock_rate d s.last c.args.instant c.read-first.result.timestamp.0) c.requires.delay_value.0
+    ∙ ap (λ (e : Entry). ready s c.args.instant e.timestamp) (sym (c.read-first.ensures (take payload_bytes q.payloads.now)))
+    ∙ sym (hands_first c.args.instant s q.entries.now q.payloads.now q.session.entries c.if-q-eq0.false)

@@ -5,4 +5,4 @@ use Rattle.poll.proofs.packet.Goals as goal
 
 pub returns : goal.returns
 unfolding Calls.packet_of Answers.packet_of
-returns c = λ payload e. rw (c.truncated-sequence_number.ensures, c.truncated-timestamp.ensures, ← c.requires, e)
+returns c = λ payload e. rw (c.truncated.ensures, c.truncated-2.ensures, ← c.requires, e)

@@ -1,93 +1,43 @@
 -- `poll` meets its contract: refused, nothing is touched; accepted, what `accept` does is what the call does.
-use mathlib.Core.Path.{◌≡◌, ◌∙◌}
-use Rattle.rtp_packet.specs.Datagram.{largest_payload}
-use Rattle.model.specs.Storage.{Stored}
-use Rattle.model.specs.Contract.{stored}
-use Rattle.poll.specs.Answers.{poll_answer}
-use Rattle.poll.proofs.Early.{early_refusal, early_is}
-use Rattle.poll.proofs.Polling.{poll_early, poll_counted, poll_fits, poll_late, poll_sound, poll_taken, poll_done}
+use mathlib.Core.Path.{sym}
+use Rattle.storage.proofs.Settled.{passed_16}
+use Rattle.model.specs.Calls.{output_of}
+use Rattle.poll.specs.Answers.{front_answer}
+use Rattle.poll.proofs.Early.{refused_by}
+use Rattle.poll.proofs.Polling.{poll-16, poll-15-8, polling, poll_fits, poll-14, poll_taken, poll_done}
 use Rattle.poll.proofs.poll.Goals as goal
 
-pub returns-then-early-ne0 : goal.returns-then-early-ne0
-unfolding poll_answer
-returns-then-early-ne0 c =
-    let came : Stored = let a = c.args in
-    stored a.session a.entries.now a.payloads.now a.gaps.now a.remembered.now in
-    let early : (c.or_else-early.result ≡ early_refusal largest_payload c.args.out.now c.args.now came) = early_is came largest_payload c.args.now c.args.out.now
-    _ _ _ c.or_else-early.ensures c.session_refusal-damaged.ensures c.output_and_clock_refusal-output.ensures in
-    poll_early c.args.now came c.args.out.now _ early c.if-early-ne0.true
+pub returns-in_err-check_session-clause-does : goal.returns-in_err-check_session-clause-does
+unfolding output_of
+returns-in_err-check_session-clause-does c =
+    refused_by front_answer _ _ c.from_residual.ensures.1 _ _ (poll-16 _ _ _ _ c.in_err-check_session.ensures)
+
+pub returns-in_err-check_output_and_clock-clause-does : goal.returns-in_err-check_output_and_clock-clause-does
+unfolding output_of
+returns-in_err-check_output_and_clock-clause-does c =
+    refused_by front_answer _ _ c.from_residual-in_err-check_output_and_clock.ensures.1 _ _ (poll-15-8 _ _ _ c.in_ok-check_session.ensures _ c.in_err-check_output_and_clock.ensures)
 
 pub effect_at-effect-requires : goal.effect_at-effect-requires
-effect_at-effect-requires c =
-    let came : Stored = let a = c.args in
-    stored a.session a.entries.now a.payloads.now a.gaps.now a.remembered.now in
-    let early : (c.or_else-early.result ≡ early_refusal largest_payload c.args.out.now c.args.now came) = early_is came largest_payload c.args.now c.args.out.now
-    _ _ _ c.or_else-early.ensures c.session_refusal-damaged.ensures c.output_and_clock_refusal-output.ensures in
-    let all = poll_counted c.args.now came c.args.out.now _ early c.if-early-ne0.false in
-    record { entries_in_bounds = all.0; gaps_value = all.1.0; clock_le_instant = all.1.1.0; t = all.1.1.1.0; t_2 = all.1.1.1.1 }
+effect_at-effect-requires c = polling _ _ _ c.in_ok-check_session.ensures c.in_ok-check_output_and_clock.ensures
 
-pub count_refusal-count-requires : goal.count_refusal-count-requires
-count_refusal-count-requires c =
-    let came : Stored = let a = c.args in
-    stored a.session a.entries.now a.payloads.now a.gaps.now a.remembered.now in
-    let early : (c.or_else-early.result ≡ early_refusal largest_payload c.args.out.now c.args.now came) = early_is came largest_payload c.args.now c.args.out.now
-    _ _ _ c.or_else-early.ensures c.session_refusal-damaged.ensures c.output_and_clock_refusal-output.ensures in
-    poll_fits c.args.now came c.args.out.now _ early c.if-early-ne0.false
-    _ (c.effect_at-effect.ensures c.args.payloads.now c.args.remembered.now)
+pub check_count-requires : goal.check_count-requires
+check_count-requires c = poll_fits _ _ _ c.in_ok-check_session.ensures c.in_ok-check_output_and_clock.ensures _ c.effect_at-effect.ensures
 
-pub returns-then-count-ne0 : goal.returns-then-count-ne0
-unfolding poll_answer
-returns-then-count-ne0 c =
-    let came : Stored = let a = c.args in
-    stored a.session a.entries.now a.payloads.now a.gaps.now a.remembered.now in
-    let early : (c.or_else-early.result ≡ early_refusal largest_payload c.args.out.now c.args.now came) = early_is came largest_payload c.args.now c.args.out.now
-    _ _ _ c.or_else-early.ensures c.session_refusal-damaged.ensures c.output_and_clock_refusal-output.ensures in
-    poll_late c.args.now came c.args.out.now _ early c.if-early-ne0.false
-    _ (c.effect_at-effect.ensures c.args.payloads.now c.args.remembered.now)
-    _ c.count_refusal-count.ensures c.if-count-ne0.true
+pub returns-in_err-check_count-clause-does : goal.returns-in_err-check_count-clause-does
+unfolding output_of
+returns-in_err-check_count-clause-does c =
+    refused_by front_answer _ _ c.from_residual-in_err-check_count.ensures.1 _ _
+    (poll-14 _ _ _ c.in_ok-check_session.ensures c.in_ok-check_output_and_clock.ensures _ c.effect_at-effect.ensures _ c.in_err-check_count.ensures)
 
 pub settle-requires : goal.settle-requires
-settle-requires c =
-    let came : Stored = let a = c.args in
-    stored a.session a.entries.now a.payloads.now a.gaps.now a.remembered.now in
-    let early : (c.or_else-early.result ≡ early_refusal largest_payload c.args.out.now c.args.now came) = early_is came largest_payload c.args.now c.args.out.now
-    _ _ _ c.or_else-early.ensures c.session_refusal-damaged.ensures c.output_and_clock_refusal-output.ensures in
-    poll_sound c.args.now came c.args.out.now _ early c.if-early-ne0.false
+settle-requires c = passed_16 _ (sym c.in_ok-check_session.ensures)
 
 pub accept-requires : goal.accept-requires
 accept-requires c =
-    let came : Stored = let a = c.args in
-    stored a.session a.entries.now a.payloads.now a.gaps.now a.remembered.now in
-    let early : (c.or_else-early.result ≡ early_refusal largest_payload c.args.out.now c.args.now came) = early_is came largest_payload c.args.now c.args.out.now
-    _ _ _ c.or_else-early.ensures c.session_refusal-damaged.ensures c.output_and_clock_refusal-output.ensures in
-    let all = poll_taken c.args.now came c.args.out.now _ early c.if-early-ne0.false
-    _ (c.effect_at-effect.ensures c.args.payloads.now c.args.remembered.now)
-    _ c.settle.ensures in
-    record { settled = all.0; effect_value = all.1.0; in_bounds = all.1.1 }
+    let all = poll_taken _ _ _ c.in_ok-check_session.ensures c.in_ok-check_output_and_clock.ensures _ c.effect_at-effect.ensures _ c.settle.ensures.settled in
+    record { settled = all.0; effect_value = all.1; in_bounds = all.2 }
 
-pub shape_of-entries : goal.shape_of-entries
-shape_of-entries c = c.entries-2-1.given ∙ c.entries-1.given
-
-pub shape_of-payloads : goal.shape_of-payloads
-shape_of-payloads c = c.payloads-2-1.given ∙ c.payloads-1.given
-
-pub shape_of-gaps : goal.shape_of-gaps
-shape_of-gaps c = c.gaps-2-1.given ∙ c.gaps-1.given
-
-pub shape_of-remembered : goal.shape_of-remembered
-shape_of-remembered c = c.remembered-2-1.given ∙ c.remembered-1.given
-
-pub shape_of-out : goal.shape_of-out
-shape_of-out c = c.out-1.given
-
-pub returns : goal.returns
-returns c =
-    let came : Stored = let a = c.args in
-    stored a.session a.entries.now a.payloads.now a.gaps.now a.remembered.now in
-    let early : (c.or_else-early.result ≡ early_refusal largest_payload c.args.out.now c.args.now came) = early_is came largest_payload c.args.now c.args.out.now
-    _ _ _ c.or_else-early.ensures c.session_refusal-damaged.ensures c.output_and_clock_refusal-output.ensures in
-    poll_done c.args.now came c.args.out.now _ early c.if-early-ne0.false
-    _ (c.effect_at-effect.ensures c.args.payloads.now c.args.remembered.now)
-    _ c.count_refusal-count.ensures c.if-count-ne0.false
-    _ c.settle.ensures
-    _ c.accept.ensures
+pub returns-clause-does : goal.returns-clause-does
+returns-clause-does c =
+    poll_done _ _ _ c.in_ok-check_session.ensures c.in_ok-check_output_and_clock.ensures _ c.effect_at-effect.ensures _ c.settle.ensures.settled c.in_ok-check_count.ensures _
+    c.accept.ensures.accepted_as

@@ -1,44 +1,24 @@
 -- `push_settled` meets its contract: turned back, or applied.
-use mathlib.Core.Path.{refl, subst}
-use Rattle.model.specs.Contract.{stored}
-use Rattle.model.specs.Storage.{Stored, parse}
-use Rattle.push.specs.declared.Judged.{Judged}
-use Rattle.push.specs.Answers.{media_answer}
+use mathlib.Core.Path.{refl}
+use Rattle.storage.specs.Held.{held}
+use Rattle.model.specs.Storage.{Stored}
 use Rattle.push.specs.Media.{JudgedAs}
-use Rattle.push.proofs.Pushing.{readable, push-refused, push_applied}
+use Rattle.push.proofs.Pushing.{passed, readable, push-refused, push_applied}
 use Rattle.push.proofs.push_settled.Goals as goal
 
 -- ---- the needs
 pub judge-requires : goal.judge-requires
-judge-requires c =
-    let came : Stored = let a = c.args in
-    stored a.s a.entries.now a.payloads.now a.gaps.now a.remembered.now in
-    readable came c.requires.sound
+judge-requires c = readable (held c.args.q.now) c.requires.sound
 
 pub apply-requires : goal.apply-requires
 unfolding JudgedAs
-apply-requires c =
-    let came : Stored = let a = c.args in
-    stored a.s a.entries.now a.payloads.now a.gaps.now a.remembered.now in
-    let a = c.args in
-    let h = subst (λ (x : Judged). JudgedAs a.instant a.datagram.now (parse came) x) c.in-Accepted.is (c.judge.ensures a.entries.now a.payloads.now a.remembered.now) in
-    record { settled = c.requires; found_in = h.1 }
+apply-requires c = record { settled = c.requires; found_in = (c.in_ok-found.ensures (c.args.q.now.entries.now) c.args.q.now.payloads.now c.args.q.now.remembered.now).1 }
 
-pub returns-in-Refused : goal.returns-in-Refused
-unfolding media_answer
-returns-in-Refused c =
-    let came : Stored = let a = c.args in
-    stored a.s a.entries.now a.payloads.now a.gaps.now a.remembered.now in
-    let a = c.args in
-    rw c.refused.ensures
-    (push-refused a.instant a.datagram.now came c.requires.sound _
-    (subst (λ (x : Judged). JudgedAs a.instant a.datagram.now (parse came) x) c.in-Refused.is (c.judge.ensures a.entries.now a.payloads.now a.remembered.now)))
+pub returns-in_err-found-clause-does : goal.returns-in_err-found-clause-does
+returns-in_err-found-clause-does c =
+    rw (passed c.from_residual.result _ c.from_residual.ensures.1) (push-refused c.args.instant c.args.datagram.now (held c.args.q.now) c.requires.sound _ (c.in_err-found.ensures c.args.q.now.entries.now c.args.q.now.payloads.now c.args.q.now.remembered.now))
 
-pub returns-in-Accepted : goal.returns-in-Accepted
-returns-in-Accepted c =
-    let came : Stored = let a = c.args in
-    stored a.s a.entries.now a.payloads.now a.gaps.now a.remembered.now in
-    let a = c.args in
-    push_applied a.instant a.datagram.now came c.requires.sound _
-    (subst (λ (x : Judged). JudgedAs a.instant a.datagram.now (parse came) x) c.in-Accepted.is (c.judge.ensures a.entries.now a.payloads.now a.remembered.now))
-    came _ _ refl c.apply.ensures.answer_value c.apply.ensures.remembered_after
+pub returns-clause-does : goal.returns-clause-does
+returns-clause-does c =
+    let came : Stored = held c.args.q.now in
+    push_applied c.args.instant c.args.datagram.now came c.requires.sound _ (c.in_ok-found.ensures c.args.q.now.entries.now c.args.q.now.payloads.now c.args.q.now.remembered.now) came _ _ refl c.apply.ensures.answer_value c.apply.ensures.left

@@ -1,11 +1,6 @@
--- `words::clear` meets its contract: each turn writes one of as many zeros.
-use Prim.Native.Nat.{◌-◌}
-use lib.ListN.{length, replicate}
-use Rattle.words.proofs.Loops.{Writing}
+-- `words::clear` meets its contract: each turn writes one zero more.
+use Rattle.std.proofs.Common.{◌≡◌, ℕ, ◌<◌, get_or}
 use Rattle.words.proofs.clear.Given as goal
 
-abbrev pub invariant-loop-i : goal.invariant-loop-i
-invariant-loop-i l = Writing (replicate (length l.initial.part) 0) l.initial.part l.part (length l.initial.part) l.i
-
-abbrev pub decreases-loop-i : goal.decreases-loop-i
-decreases-loop-i l = length l.initial.part - l.i
+abbrev pub invariant-loop-x : goal.invariant-loop-x
+invariant-loop-x g l = (k : ℕ) → k < l.x-index → get_or l.part k g.T.Element.ZERO ≡ g.T.Element.ZERO

@@ -1,11 +1,6 @@
 -- `words::gathered` meets its contract: each turn takes one more in.
-use Prim.Native.Nat.{◌-◌}
-use lib.ListN.{length}
-use Rattle.words.proofs.Sweeps.{Gathering}
+use Rattle.std.proofs.Common.{◌≡◌, ℕ, ◌<◌, get_or}
 use Rattle.words.proofs.gathered.Given as goal
 
-abbrev pub invariant-loop-i : goal.invariant-loop-i
-invariant-loop-i l = Gathering l.part l.all l.i
-
-abbrev pub decreases-loop-i : goal.decreases-loop-i
-decreases-loop-i l = length l.part - l.i
+abbrev pub invariant-loop-x : goal.invariant-loop-x
+invariant-loop-x g l = l.all ≡ g.T.Element.ZERO → (k : ℕ) → k < l.x-index → get_or l.part k g.T.Element.ZERO ≡ g.T.Element.ZERO

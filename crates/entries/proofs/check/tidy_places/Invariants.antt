@@ -1,10 +1,6 @@
 -- `tidy_places`: the loop keeps `Tidying`.
-use Prim.Native.Nat.{◌-◌}
 use Rattle.entries.proofs.Scan.{Tidying}
 use Rattle.entries.proofs.check.tidy_places.Given as goal
 
 abbrev pub invariant-loop-i : goal.invariant-loop-i
 invariant-loop-i l = Tidying l.words l.initial.bytes l.bytes l.n l.i
-
-abbrev pub decreases-loop-i : goal.decreases-loop-i
-decreases-loop-i l = l.n - l.i

@@ -1,11 +1,6 @@
 -- `read`: before each turn the numbers of the first i entries stand in `list` (`Reading`).
-use Prim.Native.Nat.{◌-◌, ◌/◌}
-use lib.ListN.{length}
 use Rattle.nack_pairs.proofs.Unmasking.{Reading}
 use Rattle.nack_pairs.proofs.read.read.Given as goal
 
 abbrev pub invariant-loop-i : goal.invariant-loop-i
 invariant-loop-i l = Reading l.bytes l.initial.list l.list l.count l.i
-
-abbrev pub decreases-loop-i : goal.decreases-loop-i
-decreases-loop-i l = length l.bytes / 4 - l.i

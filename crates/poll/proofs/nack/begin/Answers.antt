@@ -1,52 +1,41 @@
--- `begin` meets its contract: a refusal leaves all as it was, else `settle` is done.
-use mathlib.Core.Path.{◌≡◌, sym, ap, ◌∙◌}
-use Prim.Native.Nat.{ℕ}
-use Rattle.model.specs.Storage.{Stored, gaps_of}
-use Rattle.model.specs.Contract.{stored}
+-- `begin` meets its contract: a refusal leaves all as it was, else `settle` and `drain` are done.
+use mathlib.Core.Path.{sym, ◌∙◌}
 use Rattle.storage.proofs.Settled.{passed_16}
-use Rattle.poll.specs.Nacking.{found_in_of, judged_by, nack_refusal, settled_by}
-use Rattle.poll.specs.declared.nack.Found.{Found}
-use Rattle.poll.specs.declared.nack.Judged.TheVariants.{Refused}
-use Rattle.poll.proofs.Nacking.{judging, judged_refused, judged_passed, begin_damaged, begin_judged, says-refused, says-passed, left_alone, settled-by}
+use Rattle.refusals.proofs.Laws.{passed_on, refused_unless}
+use Rattle.poll.proofs.Nacking.{judging, left_alone, begin_damaged, begin_late, begin-ok, begin_settled, begun}
 use Rattle.poll.proofs.nack.begin.Goals as goal
 
--- a number that is the call's refusal, and nothing is touched
-back : (places now : ℕ) (m : Stored) (k : ℕ) (f : Found) → k ≡ nack_refusal places now m → (k ≡ 0 → ⊥) → (Refused k ≡ judged_by (nack_refusal places now m) f) × (m ≡ settled_by (nack_refusal places now m) m)
-back places now m k f e h = (says-refused k f h ∙ ap (λ (r : ℕ). judged_by r f) e, sym (left_alone (nack_refusal places now m) m (λ z. h (e ∙ z))))
+pub returns-in_err-check_session-clause-value : goal.returns-in_err-check_session-clause-value
+returns-in_err-check_session-clause-value c =
+    passed_on c.from_residual.result _ c.from_residual.ensures.1 ∙ refused_unless _ _ (begin_damaged _ _ _ _ c.in_err-check_session.ensures)
 
-pub returns-then-damaged-ne0 : goal.returns-then-damaged-ne0
-returns-then-damaged-ne0 c =
-    let came : Stored = let a = c.args in
-    stored a.session a.entries.now a.payloads.now a.gaps.now a.remembered.now in
-    let all = back c.args.places c.args.instant came _ (found_in_of c.args.session.queue (gaps_of c.args.gaps.now c.args.session.gaps)) (begin_damaged c.args.places c.args.instant came _ c.session_refusal-damaged.ensures c.if-damaged-ne0.true) c.if-damaged-ne0.true in
-    record { value = all.0; session_value = all.1 }
+pub returns-in_err-check_session-clause-session_value : goal.returns-in_err-check_session-clause-session_value
+returns-in_err-check_session-clause-session_value c =
+    left_alone _ _ _ _ (begin_damaged _ _ _ _ c.in_err-check_session.ensures)
 
 pub judge-requires : goal.judge-requires
-judge-requires c =
-    let came : Stored = let a = c.args in
-    stored a.session a.entries.now a.payloads.now a.gaps.now a.remembered.now in
-    judging came (passed_16 came (sym c.session_refusal-damaged.ensures ∙ c.if-damaged-ne0.false))
+judge-requires c = judging _ (passed_16 _ (sym c.in_ok-check_session.ensures))
 
-pub returns-in-Refused : goal.returns-in-Refused
-returns-in-Refused c =
-    let came : Stored = let a = c.args in
-    stored a.session a.entries.now a.payloads.now a.gaps.now a.remembered.now in
-    let z = sym c.session_refusal-damaged.ensures ∙ c.if-damaged-ne0.false in
-    let x = judged_refused _ _ (found_in_of c.args.session.queue (gaps_of c.args.gaps.now c.args.session.gaps)) (sym c.judge.ensures ∙ c.in-Refused.is) in
-    let all = back c.args.places c.args.instant came _ (found_in_of c.args.session.queue (gaps_of c.args.gaps.now c.args.session.gaps)) (sym (begin_judged c.args.places c.args.instant came z ∙ x.0)) x.1 in
-    record { value = all.0; session_value = all.1 }
+pub returns-in_err-found-clause-value : goal.returns-in_err-found-clause-value
+returns-in_err-found-clause-value c =
+    passed_on c.from_residual-in_err-found.result _ c.from_residual-in_err-found.ensures.1
+    ∙ refused_unless _ _ (begin_late _ _ _ c.in_ok-check_session.ensures _ c.in_err-found.ensures)
+
+pub returns-in_err-found-clause-session_value : goal.returns-in_err-found-clause-session_value
+returns-in_err-found-clause-session_value c =
+    left_alone _ _ _ _ (begin_late _ _ _ c.in_ok-check_session.ensures _ c.in_err-found.ensures)
 
 pub settle-requires : goal.settle-requires
-settle-requires c =
-    let came : Stored = let a = c.args in
-    stored a.session a.entries.now a.payloads.now a.gaps.now a.remembered.now in
-    passed_16 came (sym c.session_refusal-damaged.ensures ∙ c.if-damaged-ne0.false)
+settle-requires c = passed_16 _ (sym c.in_ok-check_session.ensures)
 
-pub returns-in-Passed : goal.returns-in-Passed
-returns-in-Passed c =
-    let came : Stored = let a = c.args in
-    stored a.session a.entries.now a.payloads.now a.gaps.now a.remembered.now in
-    let z = sym c.session_refusal-damaged.ensures ∙ c.if-damaged-ne0.false in
-    let x = judged_passed _ (found_in_of c.args.session.queue (gaps_of c.args.gaps.now c.args.session.gaps)) _ (sym c.judge.ensures ∙ c.in-Passed.is) in
-    let n = begin_judged c.args.places c.args.instant came z ∙ x.0 in
-    record { value = says-passed _ _ _ n x.1; session_value = c.settle.ensures ∙ sym (settled-by _ came n) }
+pub drain-requires : goal.drain-requires
+drain-requires c =
+    let all = begin_settled _ _ _ c.in_ok-check_session.ensures _ c.in_ok-found.ensures _ c.settle.ensures.settled in
+    record { settled = all.0; given_value = all.1 }
+
+pub returns-clause-value : goal.returns-clause-value
+returns-clause-value c = begin-ok _ _ _ c.in_ok-check_session.ensures _ c.in_ok-found.ensures
+
+pub returns-clause-session_value : goal.returns-clause-session_value
+returns-clause-session_value c =
+    begun _ _ _ c.in_ok-check_session.ensures _ c.in_ok-found.ensures _ c.settle.ensures.settled _ c.drain.ensures.drained

@@ -1,33 +1,34 @@
--- `poll_nack` meets its contract: refused by `begin`, nothing is touched; else what `accept` does is what the call does.
-use mathlib.Core.Path.{sym, ◌∙◌}
+-- `poll_nack` meets its contract: refused by `begin`, nothing is touched; else the NACKs are what the call does.
 use lib.ListN.{length}
-use Rattle.model.specs.Storage.{Stored, gaps_of}
-use Rattle.model.specs.Calls.{poll_nack, output_of}
-use Rattle.model.specs.Contract.{stored}
-use Rattle.poll.specs.Answers.{nack_answer}
-use Rattle.poll.specs.Nacking.{found_in_of}
-use Rattle.poll.proofs.Nacking.{judged_refused, judged_passed, turned_back_lem, nack-places, nacking, all_done, list-refusal, list-accepted}
+use mathlib.Core.Path.{ap, ◌∙◌}
+use mathlib.Core.List.{List, map}
+use Rattle.words.specs.Words.{over}
+use Rattle.model.specs.Records.{Gap}
+use Rattle.model.specs.Rules.{truncated}
+use Rattle.model.specs.Calls.{output_of, nack_answer}
+use Rattle.storage.specs.Held.{held}
+use Rattle.poll.specs.Answers.{count_answer}
+use Rattle.poll.proofs.Nacking.{list-refusal, list-accepted, begin_refused, nacks, nacks_done, some_count}
 use Rattle.poll.proofs.nack.poll_nack.Goals as goal
 
-pub accept-requires : goal.accept-requires
-accept-requires c =
-    let came : Stored = let a = c.args in
-    stored a.session a.entries.now a.payloads.now a.gaps.now a.remembered.now in
-    let x = judged_passed _ (found_in_of c.args.session.queue (gaps_of c.args.gaps.now c.args.session.gaps)) _ (sym c.begin.ensures.value ∙ c.in-Passed.is) in
-    let k = list-refusal c.args.now came c.args.out.now in record { nacking = nacking (poll_nack c.args.now c.args.out.now) (length c.args.out.now) c.args.now came k x.0 _ _ _ _ c.begin.ensures.session_value _ x.1; gaps_in_bounds = nack-places (poll_nack c.args.now c.args.out.now) (length c.args.out.now) c.args.now came k x.0 }
+pub returns-in_err-timings-clause-does : goal.returns-in_err-timings-clause-does
+unfolding output_of
+returns-in_err-timings-clause-does c =
+    let same = list-refusal c.args.now (held c.args.q.now) c.args.out.now in
+    begin_refused _ _ _ _ same count_answer _ _ c.from_residual.ensures.1 c.in_err-timings.ensures.value _ c.begin.ensures.session_value
 
-pub returns-in-Refused : goal.returns-in-Refused
-unfolding nack_answer output_of
-returns-in-Refused c =
-    let came : Stored = let a = c.args in
-    stored a.session a.entries.now a.payloads.now a.gaps.now a.remembered.now in
-    let x = judged_refused _ _ (found_in_of c.args.session.queue (gaps_of c.args.gaps.now c.args.session.gaps)) (sym c.begin.ensures.value ∙ c.in-Refused.is) in
-    turned_back_lem (poll_nack c.args.now c.args.out.now) (length c.args.out.now) c.args.now came (list-refusal c.args.now came c.args.out.now) _ _ c.begin.ensures.session_value x.0 x.1
+pub poll_nacks-count-requires : goal.poll_nacks-count-requires
+poll_nacks-count-requires c =
+    let same = list-refusal c.args.now (held c.args.q.now) c.args.out.now in
+    let n = nacks _ _ _ _ same _ c.in_ok-timings.ensures.value _ c.begin.ensures.session_value in
+    record { gaps_in = n.held; n_in_bounds = n.places; n_value = n.instants; n_value_2 = n.none_full; small = n.small }
 
-pub returns-in-Passed : goal.returns-in-Passed
-returns-in-Passed c =
-    let came : Stored = let a = c.args in
-    stored a.session a.entries.now a.payloads.now a.gaps.now a.remembered.now in
-    let x = judged_passed _ (found_in_of c.args.session.queue (gaps_of c.args.gaps.now c.args.session.gaps)) _ (sym c.begin.ensures.value ∙ c.in-Passed.is) in
-    let e = c.accept.ensures in
-    all_done (poll_nack c.args.now c.args.out.now) (length c.args.out.now) c.args.now came (list-refusal c.args.now came c.args.out.now) x.0 _ _ _ _ c.begin.ensures.session_value _ _ (list-accepted c.args.now _ c.args.out.now) _ _ _ _ e.nacked e.answer_value e.out_after
+pub returns-clause-does : goal.returns-clause-does
+returns-clause-does c =
+    let m = held c.args.q.now in
+    let same = list-refusal c.args.now m c.args.out.now in
+    let n = nacks _ _ _ _ same _ c.in_ok-timings.ensures.value _ c.begin.ensures.session_value in
+    let p = c.poll_nacks-count.ensures in
+    nacks_done _ _ _ _ same _ c.in_ok-timings.ensures.value _ c.begin.ensures.session_value _ _ (list-accepted c.args.now m c.args.out.now) _ _ _ p.s_after
+    (ap count_answer c.then_some.ensures ∙ some_count _ ∙ ap nack_answer (p.value ∙ ap length n.due_are))
+    (p.out_after ∙ ap (λ (l : List Gap). over (map truncated l) c.args.out.now) n.due_are)

@@ -1,36 +1,34 @@
 -- `nack_wire` meets its contract: as `poll_nack`, with four bytes to a place.
-use mathlib.Core.Path.{sym, ◌∙◌}
+use mathlib.Core.Path.{ap, ◌∙◌}
+use mathlib.Core.List.{List}
 use native.Mathlib.Omega.{arith}
-use Prim.Native.Nat.{◌/◌}
 use lib.ListN.{length}
-use Rattle.nack_pairs.specs.Wire.{entry_bytes}
-use Rattle.model.specs.Storage.{Stored, gaps_of}
-use Rattle.model.specs.Calls.{nack_wire, output_of}
-use Rattle.model.specs.Contract.{stored}
-use Rattle.poll.specs.Answers.{wire_answer}
-use Rattle.poll.specs.Nacking.{found_in_of}
-use Rattle.poll.proofs.Nacking.{judged_refused, judged_passed, turned_back_lem, nack-places, nacking, all_done, wire-refusal, wire-accepted}
+use Rattle.words.specs.Words.{over}
+use Rattle.nack_pairs.specs.Wire.{entries}
+use Rattle.model.specs.Records.{Gap, gap_numbers}
+use Rattle.model.specs.Calls.{output_of, wire}
+use Rattle.storage.specs.Held.{held}
+use Rattle.poll.proofs.Nacking.{wire-refusal, wire-accepted, begin_refused, nacks, nacks_done}
 use Rattle.poll.proofs.wire.nack_wire.Goals as goal
 
-pub accept-requires : goal.accept-requires
-accept-requires c =
-    let came : Stored = let a = c.args in
-    stored a.session a.entries.now a.payloads.now a.gaps.now a.remembered.now in
-    let x = judged_passed _ (found_in_of c.args.session.queue (gaps_of c.args.gaps.now c.args.session.gaps)) _ (sym c.begin.ensures.value ∙ c.in-Passed.is) in
-    let k = wire-refusal c.args.now came c.args.out.now in record { nacking = nacking (nack_wire c.args.now c.args.out.now) (length c.args.out.now / entry_bytes) c.args.now came k x.0 _ _ _ _ c.begin.ensures.session_value _ x.1; gaps_in_bounds = omega (arith, nack-places (nack_wire c.args.now c.args.out.now) (length c.args.out.now / entry_bytes) c.args.now came k x.0) }
+pub returns-in_err-timings-clause-does : goal.returns-in_err-timings-clause-does
+unfolding output_of
+returns-in_err-timings-clause-does c =
+    let same = wire-refusal c.args.now (held c.args.q.now) c.args.out.now in
+    begin_refused _ _ _ _ same wire _ _ c.from_residual.ensures.1 c.in_err-timings.ensures.value _ c.begin.ensures.session_value
 
-pub returns-in-Refused : goal.returns-in-Refused
-unfolding wire_answer output_of
-returns-in-Refused c =
-    let came : Stored = let a = c.args in
-    stored a.session a.entries.now a.payloads.now a.gaps.now a.remembered.now in
-    let x = judged_refused _ _ (found_in_of c.args.session.queue (gaps_of c.args.gaps.now c.args.session.gaps)) (sym c.begin.ensures.value ∙ c.in-Refused.is) in
-    turned_back_lem (nack_wire c.args.now c.args.out.now) (length c.args.out.now / entry_bytes) c.args.now came (wire-refusal c.args.now came c.args.out.now) _ _ c.begin.ensures.session_value x.0 x.1
+pub poll_wire-requires : goal.poll_wire-requires
+poll_wire-requires c =
+    let same = wire-refusal c.args.now (held c.args.q.now) c.args.out.now in
+    let n = nacks _ _ _ _ same _ c.in_ok-timings.ensures.value _ c.begin.ensures.session_value in
+    record { gaps_in = n.held; n_in_bounds = omega (arith, n.places); n_value = n.instants; n_value_2 = n.none_full; small = n.small; n_value_3 = n.ascend }
 
-pub returns-in-Passed : goal.returns-in-Passed
-returns-in-Passed c =
-    let came : Stored = let a = c.args in
-    stored a.session a.entries.now a.payloads.now a.gaps.now a.remembered.now in
-    let x = judged_passed _ (found_in_of c.args.session.queue (gaps_of c.args.gaps.now c.args.session.gaps)) _ (sym c.begin.ensures.value ∙ c.in-Passed.is) in
-    let e = c.accept.ensures in
-    all_done (nack_wire c.args.now c.args.out.now) (length c.args.out.now / entry_bytes) c.args.now came (wire-refusal c.args.now came c.args.out.now) x.0 _ _ _ _ c.begin.ensures.session_value _ _ (wire-accepted c.args.now _ c.args.out.now) _ _ _ _ e.nacked e.answer_value e.out_after
+pub returns-clause-does : goal.returns-clause-does
+returns-clause-does c =
+    let m = held c.args.q.now in
+    let same = wire-refusal c.args.now m c.args.out.now in
+    let n = nacks _ _ _ _ same _ c.in_ok-timings.ensures.value _ c.begin.ensures.session_value in
+    let p = c.poll_wire.ensures in
+    nacks_done _ _ _ _ same _ c.in_ok-timings.ensures.value _ c.begin.ensures.session_value _ _ (wire-accepted c.args.now m c.args.out.now) _ _ _ p.s_after
+    (ap wire (p.value ∙ ap (λ (l : List Gap). length (entries (gap_numbers l))) n.due_are))
+    (p.out_after ∙ ap (λ (l : List Gap). over (entries (gap_numbers l)) c.args.out.now) n.due_are)

@@ -1,58 +1,40 @@
 -- `push_rtx` meets its contract: the checks before the datagram, the datagram's own, and then `push_repair`.
 use Rattle.push.proofs.Repairing.{repair_early, repair_unread, repair_read}
 use Rattle.storage.proofs.Settled.{passed_16}
-use Rattle.push.proofs.Pushing.{payload-is}
-use Rattle.push.specs.Answers.{repair_answer}
-use Rattle.model.specs.Contract.{stored}
-use Rattle.model.specs.Storage.{Stored}
+use Rattle.push.proofs.Pushing.{passed, payload-is}
+use Rattle.storage.specs.Held.{held}
 use Rattle.rtp_packet.proofs.Bounds.{payload-fits}
 use Rattle.rtp_packet.proofs.Answers.{parsed-packet, parsed-refused}
 use Rattle.rtp_packet.specs.Datagram.{largest_repair}
-use Rattle.refusals.specs.Refusals.{or_else}
-use Rattle.refusals.proofs.Laws.{or_else-none}
+use Rattle.refusals.proofs.Laws.{or_else_second, or_else_refused, or_else-none}
 use lib.ListN.{length}
 use native.Mathlib.Omega.{arith}
-use mathlib.Core.Path.{sym, ap, ◌∙◌}
+use mathlib.Core.Path.{refl, sym, ap, ◌∙◌}
 use Rattle.push.proofs.rtx.push_rtx.Goals as goal
 
-pub returns-then-refusal-ne0 : goal.returns-then-refusal-ne0
-unfolding repair_answer
-returns-then-refusal-ne0 c =
-    let came : Stored = let a = c.args in
-    stored a.session a.entries.now a.payloads.now a.gaps.now a.remembered.now in
-    rw c.refused.ensures
-    (repair_early c.args.now c.args.datagram.now came
-    _ _ c.session_and_clock_refusal-damaged.ensures (c.or_else-refusal.ensures ∙ ap (or_else _) c.rtx_refusal.ensures) c.if-refusal-ne0.true)
+pub returns-in_err-check_session_and_clock-clause-does : goal.returns-in_err-check_session_and_clock-clause-does
+returns-in_err-check_session_and_clock-clause-does c =
+    rw (passed c.from_residual.result _ c.from_residual.ensures.1) (repair_early c.args.now c.args.datagram.now (held c.args.q.now) _ (or_else_refused _ _ c.in_err-check_session_and_clock.ensures) _ refl)
+
+pub returns-in_err-check_rtx-clause-does : goal.returns-in_err-check_rtx-clause-does
+returns-in_err-check_rtx-clause-does c =
+    rw (passed c.from_residual-in_err-check_rtx.result _ c.from_residual-in_err-check_rtx.ensures.1)
+    (repair_early c.args.now c.args.datagram.now (held c.args.q.now) _ (c.in_err-check_rtx.ensures ∙ sym (or_else_second _ _ (sym c.in_ok-check_session_and_clock.ensures))) _ refl)
+
+pub returns-in_err-p-clause-does : goal.returns-in_err-p-clause-does
+returns-in_err-p-clause-does c =
+    let early = c.in_ok-check_rtx.ensures ∙ sym (or_else_second _ _ (sym c.in_ok-check_session_and_clock.ensures)) in
+    let x = parsed-refused _ _ largest_repair _ c.args.datagram.now (sym c.in_err-p.ensures) in
+    rw (passed c.from_residual-in_err-p.result _ c.from_residual-in_err-p.ensures.1) (repair_unread c.args.now c.args.datagram.now (held c.args.q.now) _ early refl _ x.0)
 
 pub push_repair-requires : goal.push_repair-requires
 push_repair-requires c =
-    let came : Stored = let a = c.args in
-    stored a.session a.entries.now a.payloads.now a.gaps.now a.remembered.now in
-    let a = c.args in
-    let z = or_else-none _ _ (sym c.or_else-refusal.ensures ∙ c.if-refusal-ne0.false) in
-    let y = or_else-none _ _ (sym c.session_and_clock_refusal-damaged.ensures ∙ z.0) in
-    let x = parsed-packet _ _ largest_repair a.datagram.now _ (sym c.parse_repair.ensures ∙ c.in-Packet.is) in
-    let l = ap length (payload-is a.datagram.now _ _ c.payload-payload.ensures x.1) in
-    record { remembered_value = passed_16 came y.0; payload_len_bound = omega (arith, l, payload-fits _ _ largest_repair a.datagram.now x.0) }
+    let x = parsed-packet _ _ largest_repair c.args.datagram.now _ (sym c.in_ok-p.ensures) in
+    let l = ap length (payload-is c.args.datagram.now _ _ c.payload-payload.ensures x.1) in
+    record { remembered_value = passed_16 (held c.args.q.now) (or_else-none _ _ (sym c.in_ok-check_session_and_clock.ensures)).0; payload_len_bound = omega (arith, l, payload-fits _ _ largest_repair c.args.datagram.now x.0) }
 
-pub returns-in-Refused : goal.returns-in-Refused
-unfolding repair_answer
-returns-in-Refused c =
-    let came : Stored = let a = c.args in
-    stored a.session a.entries.now a.payloads.now a.gaps.now a.remembered.now in
-    let a = c.args in
-    let x = parsed-refused _ _ largest_repair _ a.datagram.now (sym c.parse_repair.ensures ∙ c.in-Refused.is) in
-    rw c.refused-in-Refused.ensures
-    (repair_unread a.now a.datagram.now came
-    _ _ c.session_and_clock_refusal-damaged.ensures (c.or_else-refusal.ensures ∙ ap (or_else _) c.rtx_refusal.ensures) c.if-refusal-ne0.false
-    _ x.0 x.1)
-
-pub returns-in-Packet : goal.returns-in-Packet
-returns-in-Packet c =
-    let came : Stored = let a = c.args in
-    stored a.session a.entries.now a.payloads.now a.gaps.now a.remembered.now in
-    let a = c.args in
-    let x = parsed-packet _ _ largest_repair a.datagram.now _ (sym c.parse_repair.ensures ∙ c.in-Packet.is) in
-    repair_read a.now a.datagram.now came
-    _ _ c.session_and_clock_refusal-damaged.ensures (c.or_else-refusal.ensures ∙ ap (or_else _) c.rtx_refusal.ensures) c.if-refusal-ne0.false
-    _ _ _ x.0 x.1 (payload-is a.datagram.now _ _ c.payload-payload.ensures x.1) c.push_repair.ensures
+pub returns-clause-does : goal.returns-clause-does
+returns-clause-does c =
+    let early = c.in_ok-check_rtx.ensures ∙ sym (or_else_second _ _ (sym c.in_ok-check_session_and_clock.ensures)) in
+    let x = parsed-packet _ _ largest_repair c.args.datagram.now _ (sym c.in_ok-p.ensures) in
+    repair_read c.args.now c.args.datagram.now (held c.args.q.now) _ early refl _ _ _ x.0 x.1 (payload-is c.args.datagram.now _ _ c.payload-payload.ensures x.1) c.push_repair.ensures.does

@@ -1,13 +1,13 @@
 -- `too_late` meets its contract: the remembered numbers and the repair state, each as `model` says.
 use Rattle.push.proofs.Repaired.{ready_late, taken-some, late_is}
-use Rattle.model.specs.Contract.{stored}
+use Rattle.storage.specs.Held.{held}
 use Rattle.push.proofs.rtx.too_late.Goals as goal
 
 pub forget-nacked-requires : goal.forget-nacked-requires
-forget-nacked-requires c = (ready_late c.args.instant c.args.e (stored c.args.s c.args.entries.now c.args.payloads.now c.args.gaps.now c.args.remembered.now) c.requires).remembered_in
+forget-nacked-requires c = (ready_late c.args.instant c.args.e (held c.args.q.now) c.requires).remembered_in
 
 pub left_after-left-requires : goal.left_after-left-requires
-left_after-left-requires c = taken-some c.args.instant c.args.e (stored c.args.s c.args.entries.now c.args.payloads.now c.args.gaps.now c.args.remembered.now) c.requires _ c.forget-nacked.ensures.value
+left_after-left-requires c = taken-some c.args.instant c.args.e (held c.args.q.now) c.requires _ c.forget-nacked.ensures.value
 
-pub returns : goal.returns
-returns c = late_is c.args.instant c.args.e (stored c.args.s c.args.entries.now c.args.payloads.now c.args.gaps.now c.args.remembered.now) c.requires _ _ _ _ c.forget-nacked.ensures.value c.too_late-queue.ensures c.left_after-left.ensures c.forget-nacked.ensures.s_after
+pub returns-clause-left : goal.returns-clause-left
+returns-clause-left c = late_is c.args.instant c.args.e (held c.args.q.now) c.requires _ _ _ _ c.forget-nacked.ensures.value c.too_late-queue.ensures c.left_after-left.ensures c.forget-nacked.ensures.s_after

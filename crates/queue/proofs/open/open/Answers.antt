@@ -1,15 +1,20 @@
 -- `open` meets its contract: a refusal writes nothing, and otherwise every slice is zeros.
-use mathlib.Core.Path.{sym, ◌∙◌}
-use borrow.Author.Tests.{eq-eqb, ne_eqb}
+use mathlib.Core.Path.{sym, refl}
+use Rattle.std.proofs.lemmas.Result.{err_from_is_err_and}
+use Rattle.refusals.proofs.Laws.{number_refuses}
 use Rattle.model.specs.Did.{opened}
-use Rattle.queue.specs.Answers.{opening_answer}
 use Rattle.queue.proofs.New.{zeros}
 use Rattle.queue.proofs.open.open.Goals as goal
 
-pub returns-then-refused-ne0 : goal.returns-then-refused-ne0
-unfolding opened opening_answer
-returns-then-refused-ne0 c = rw (← c.refusal-refused.ensures, ne_eqb _ _ c.if-refused-ne0.true)
+pub returns-in_err-check_opening : goal.returns-in_err-check_opening
+unfolding opened
+returns-in_err-check_opening c =
+    let p = err_from_is_err_and c.from_residual.result c.from_residual.ensures.1 in
+    rw (p.1, p.2, ← c.in_err-check_opening.ensures, number_refuses c.in_err-check_opening.field-0.0) refl
 
 pub returns : goal.returns
-unfolding opened opening_answer
-returns c = let a = c.args in let z = sym c.refusal-refused.ensures ∙ c.if-refused-ne0.false in rw (eq-eqb _ _ z, ← c.new_session.ensures, ← (zeros a.config a.entries.now a.payloads.now a.gaps.now a.remembered.now z _ _ _ _ c.tidy.ensures c.tidy-2.ensures c.tidy-3.ensures c.tidy-4.ensures))
+unfolding opened
+returns c =
+    let a = c.args in
+    let z = sym c.in_ok-check_opening.ensures in
+    rw (z, ← c.new_session.ensures, ← (zeros a.config a.entries.now a.payloads.now a.gaps.now a.remembered.now z _ _ _ _ c.tidy.ensures c.tidy-2.ensures c.tidy-3.ensures c.tidy-4.ensures)) refl

@@ -24,11 +24,11 @@ overflow_add-number c =
 pub loop-i-preserved : goal.loop-i-preserved
 loop-i-preserved c =
     let a = c.args in
-    (search rules, omega (arith, big_endian_next c.loop-i.i a.at a.d.now))
+    omega (arith, big_endian_next c.loop-i.i a.at a.d.now, c.from.ensures, c.byte_at.ensures)
 
 pub returns : goal.returns
 returns c =
     let a = c.args in
     let e : c.loop-i.i ≡ a.width = omega arith in
-    let n : c.loop-i.number ≡ big_endian a.width a.at a.d.now = rw (← e) c.loop-i.invariant.1 in
+    let n : c.loop-i.number ≡ big_endian a.width a.at a.d.now = rw (← e) c.loop-i.invariant in
     record { value = n; upper_bound = rw n (big_endian-lt a.width a.at a.d.now (λ k. (c.shared_slice_known-1.given k).fits)) }

@@ -1,18 +1,16 @@
--- `ready` meets its contract, arm by arm.
-use mathlib.Core.Path.{◌≡◌, sym, ap, ◌∙◌}
-use Rattle.config.specs.declared.RtpInboundQueueMode.{RtpInboundQueueMode}
-use Rattle.config.specs.declared.RtpInboundQueueMode.TheVariants.{Passthrough, SortedQueue}
-use Rattle.model.specs.Poll.{ready_in}
+-- `ready` meets its contract: check 16 and the clock bound what the limit is reckoned from.
+use mathlib.Core.Path.{◌≡◌}
+use native.Mathlib.Omega.{arith}
+use Rattle.config.proofs.Facts.{usable}
+use Rattle.std.specs.Prelude.{Some}
+use Rattle.session.proofs.Bounds.{last_in}
 use Rattle.session.proofs.poll.ready.Goals as goal
 
-pub returns-in-Passthrough : goal.returns-in-Passthrough
-unfolding ready_in
-returns-in-Passthrough c =
-    let m : c.args.q.config.settings.mode ≡ Passthrough = c.in-Passthrough.is in
-    rw m
-
-pub returns-in-SortedQueue : goal.returns-in-SortedQueue
-returns-in-SortedQueue c =
+pub max_timestamp-limit-requires : goal.max_timestamp-limit-requires
+max_timestamp-limit-requires c =
     let q = c.args.q in
-    let m : q.config.settings.mode ≡ SortedQueue c.in-SortedQueue.field-0 = c.in-SortedQueue.is in
-    c.sorted_ready.ensures _ ∙ ap (λ (x : RtpInboundQueueMode). ready_in x q.config.settings.clock_rate c.args.delay q.last c.args.now c.args.timestamp.0) (sym m)
+    let r = c.in-Some.r in
+    let e : q.last ≡ Some r = c.in-Some.is in
+    let l = last_in q.clock q.last r e c.requires.sound_last in
+    let u = usable q.config.settings c.requires.valid_settings in
+    (omega (arith, l.0, c.requires.in_time), l.1, u.rate, c.requires.in_time.2, c.requires.in_time.1)

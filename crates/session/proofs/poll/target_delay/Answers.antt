@@ -3,7 +3,8 @@ use mathlib.Core.Path.{◌≡◌, sym, ap, ◌∙◌, subst}
 use Prim.Native.Nat.{ℕ, ◌≤◌}
 use lib.Dec.{T}
 use Rattle.rtx_state.specs.RoundTrip.{opt_rtt_in_range}
-use Rattle.rtx_state.specs.declared.OptRtt.{OptRtt}
+use Rattle.rtx_state.specs.declared.RtxRtt.{RtxRtt}
+use Rattle.std.specs.Prelude.{Option}
 use Rattle.config.specs.Valid.{longest}
 use Rattle.config.specs.Delay.{target_delay}
 use Rattle.config.proofs.Bounds.{delay-le}
@@ -14,11 +15,11 @@ use Rattle.session.proofs.poll.target_delay.Goals as goal
 pub target_delay-requires : goal.target_delay-requires
 target_delay-requires c =
     let q = c.args.q in
-    (c.requires.0, c.requires.1, subst (λ (x : OptRtt). T (opt_rtt_in_range x)) (sym c.estimate_of.ensures) (estimate_in_lem q.config.senders.has_rtx q.rtx.rtt c.requires.2))
+    (c.requires.0, c.requires.1, subst (λ (x : Option RtxRtt). T (opt_rtt_in_range x)) (sym c.estimate_of-estimate.ensures) (estimate_in_lem q.config.senders.has_rtx q.rtx.rtt c.requires.2))
 
 pub returns : goal.returns
 unfolding delay_of
 returns c =
     let q = c.args.q in
-    let e : c.target_delay.result ≡ target_delay q.config.settings q.jitter q.loss (estimate_of q) = c.target_delay.ensures ∙ ap (λ (x : OptRtt). target_delay q.config.settings q.jitter q.loss x) c.estimate_of.ensures in
+    let e : c.target_delay.result ≡ target_delay q.config.settings q.jitter q.loss (estimate_of q) = c.target_delay.ensures ∙ ap (λ (x : Option RtxRtt). target_delay q.config.settings q.jitter q.loss x) c.estimate_of-estimate.ensures in
     (e, subst (λ (d : ℕ). d ≤ longest) (sym e) (delay-le q.config.settings q.jitter q.loss (estimate_of q) c.requires.0))

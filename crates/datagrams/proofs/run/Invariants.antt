@@ -1,5 +1,0 @@
--- `run` is safe and ends: the turns are counted down.
-use Rattle.datagrams.proofs.run.Given as goal
-
-abbrev pub decreases-loop-turns : goal.decreases-loop-turns
-decreases-loop-turns l = l.turns

@@ -1,8 +1,0 @@
--- `push_refused` meets its contract: zeros beside the number.
-use mathlib.Core.Path.{refl}
-use Rattle.ffi_words.specs.Told.{pushed, refusal_in, number_in, opt_words}
-use Rattle.ffi_words.proofs.answers.push_refused.Goals as goal
-
-pub returns : goal.returns
-unfolding pushed refusal_in number_in opt_words
-returns c = refl

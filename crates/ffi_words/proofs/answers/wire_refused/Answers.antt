@@ -1,8 +1,0 @@
--- `wire_refused` meets its contract: zeros beside the number.
-use mathlib.Core.Path.{refl}
-use Rattle.ffi_words.specs.Told.{polled_wire, refusal_in, number_in, opt_words}
-use Rattle.ffi_words.proofs.answers.wire_refused.Goals as goal
-
-pub returns : goal.returns
-unfolding polled_wire refusal_in number_in opt_words
-returns c = refl

@@ -1,7 +1,0 @@
--- `queue_of` meets its contract: field by field.
-use Rattle.ffi_words.specs.Words.{queue_of}
-use Rattle.ffi_words.proofs.queue_of.Goals as goal
-
-pub returns : goal.returns
-unfolding queue_of
-returns c = cc

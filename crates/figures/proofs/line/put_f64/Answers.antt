@@ -1,6 +1,0 @@
--- `put_f64`: what equals itself is no NaN.
-use Rattle.float_laws.proofs.NoNan.{real}
-use Rattle.figures.proofs.line.put_f64.Goals as goal
-
-pub float_to_bits-x : goal.float_to_bits-x
-float_to_bits-x c = real _ c.if-x.true

@@ -1,6 +1,0 @@
--- `find` meets its contract: none of the bytes that were passed is `b`.
-use Rattle.std.proofs.Common.{◌≡◌, ℕ, ◌<◌, ◌≤◌, get_or}
-use Rattle.replay.proofs.scan.find.Given as goal
-
-abbrev pub invariant-loop-i : goal.invariant-loop-i
-invariant-loop-i l = (k : ℕ) → l.from ≤ k → k < l.i → get_or l.bytes k 0 ≡ l.b → ⊥

@@ -1,6 +1,0 @@
--- `f32_bits` is safe: what equals itself is no NaN.
-use Rattle.float_laws.proofs.NoNan.{real}
-use Rattle.replay.proofs.state.f32_bits.Goals as goal
-
-pub float_to_bits-x : goal.float_to_bits-x
-float_to_bits-x c = real _ c.if-x.true

@@ -1,9 +1,0 @@
--- `cycles` is safe and ends: the loop makes five turns.
-use Rattle.std.proofs.Common.{◌-◌, ◌≤◌}
-use Rattle.rollover.proofs.cycles.Given as goal
-
-abbrev pub invariant-loop-i : goal.invariant-loop-i
-invariant-loop-i l = l.i ≤ 5
-
-abbrev pub decreases-loop-i : goal.decreases-loop-i
-decreases-loop-i l = 5 - l.i

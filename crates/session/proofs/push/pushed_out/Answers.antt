@@ -1,5 +1,0 @@
--- `pushed_out`: what the two callees say.
-use Rattle.session.proofs.push.pushed_out.Goals as goal
-
-pub returns : goal.returns
-returns c = cc

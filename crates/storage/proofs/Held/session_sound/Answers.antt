@@ -1,0 +1,33 @@
+-- `session_sound` meets its contract: the same tests, each made only where those before it passed.
+use mathlib.Core.Path.{sym, ◌∙◌}
+use borrow.Author.Tests.{not-true, not-false}
+use Rattle.model.specs.Contract.{storage}
+use Rattle.storage.specs.Held.{held}
+use Rattle.storage.proofs.Checking.{lengths_of, counts_of, room_of, valid_usable, bad_config, bad_lengths, bad_counts, bad_queue, left-lists}
+use mathlib.Core.Path.{ap}
+use mathlib.Core.Bool.{not}
+use Rattle.storage.proofs.Held.session_sound.Goals as goal
+
+pub returns-then-not-config_valid : goal.returns-then-not-config_valid
+returns-then-not-config_valid c = let a = c.args.self.now in bad_config (held a) (sym c.config_valid.ensures ∙ not-true _ (ap not c.if-not-config_valid.true))
+
+pub lengths_fit-requires : goal.lengths_fit-requires
+lengths_fit-requires c = let a = c.args.self.now in let u = valid_usable a.session.queue.config (sym c.config_valid.ensures ∙ not-false _ (ap not c.if-not-config_valid.false)) in (u.entries, u.gaps)
+
+pub returns-then-not-lengths_fit : goal.returns-then-not-lengths_fit
+returns-then-not-lengths_fit c = let a = c.args.self.now in bad_lengths (held a) (sym c.config_valid.ensures ∙ not-false _ (ap not c.if-not-config_valid.false)) (sym c.lengths_fit.ensures ∙ not-true _ (ap not c.if-not-lengths_fit.true))
+
+pub counts_fit-requires : goal.counts_fit-requires
+counts_fit-requires c = let a = c.args.self.now in (valid_usable a.session.queue.config (sym c.config_valid.ensures ∙ not-false _ (ap not c.if-not-config_valid.false))).entries
+
+pub returns-then-not-counts_fit : goal.returns-then-not-counts_fit
+returns-then-not-counts_fit c = let a = c.args.self.now in bad_counts (held a) (sym c.config_valid.ensures ∙ not-false _ (ap not c.if-not-config_valid.false)) (sym c.lengths_fit.ensures ∙ not-false _ (ap not c.if-not-lengths_fit.false)) (sym c.counts_fit.ensures ∙ not-true _ (ap not c.if-not-counts_fit.true))
+
+pub returns-then-not-queue_sound : goal.returns-then-not-queue_sound
+returns-then-not-queue_sound c = let a = c.args.self.now in bad_queue (held a) (sym c.config_valid.ensures ∙ not-false _ (ap not c.if-not-config_valid.false)) (sym c.lengths_fit.ensures ∙ not-false _ (ap not c.if-not-lengths_fit.false)) (sym c.counts_fit.ensures ∙ not-false _ (ap not c.if-not-counts_fit.false)) (sym c.queue_sound.ensures ∙ not-true _ (ap not c.if-not-queue_sound.true))
+
+pub lists_sound-requires : goal.lists_sound-requires
+lists_sound-requires c = let a = c.args.self.now in let t = storage a.entries.now a.payloads.now a.gaps.now a.remembered.now in let r = room_of a.session t (lengths_of a.session.queue.config.settings t (sym c.lengths_fit.ensures ∙ not-false _ (ap not c.if-not-lengths_fit.false))) (counts_of a.session (sym c.counts_fit.ensures ∙ not-false _ (ap not c.if-not-counts_fit.false))) in (r.entries, r.gaps, r.remembered)
+
+pub returns : goal.returns
+returns c = let a = c.args.self.now in left-lists (held a) (sym c.config_valid.ensures ∙ not-false _ (ap not c.if-not-config_valid.false)) (sym c.lengths_fit.ensures ∙ not-false _ (ap not c.if-not-lengths_fit.false)) (sym c.counts_fit.ensures ∙ not-false _ (ap not c.if-not-counts_fit.false)) _ (sym c.queue_sound.ensures ∙ not-false _ (ap not c.if-not-queue_sound.false)) c.lists_sound.ensures
