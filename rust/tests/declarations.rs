@@ -113,8 +113,11 @@ fn numbered(line: &str, before: &str, between: &str) -> Option<(String, u64)> {
 fn the_refusals_have_the_same_names_and_numbers() {
     let ours: Vec<_> = Refusal::all().map(|refusal| (format!("{refusal:?}"), refusal.number().into())).collect();
     assert_eq!(ours.len(), 19);
-    let library = include_str!("../../crates/refusals/src/lib.rt").lines();
-    let library: Vec<_> = library.filter_map(|line| numbered(line, "pub const ", ": u64 = ")).collect();
+    let (_, library) = include_str!("../../crates/refusals/src/lib.rt").split_once("pub enum Refusal {").unwrap();
+    let (library, _) = library.split_once("\n}").unwrap();
+    let variants = library.lines().filter_map(|line| line.trim().strip_suffix(',')?.split_once(" = "));
+    let library: Vec<(String, u64)> =
+        variants.filter_map(|(name, number)| Some((name.into(), number.parse().ok()?))).collect();
     assert_eq!(library, ours);
     let (_, header) = include_str!("../../include/bizhgemu.h").split_once("enum bizhgemu_refusal {").unwrap();
     let (header, _) = header.split_once("};").unwrap();
