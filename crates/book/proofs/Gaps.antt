@@ -12,7 +12,7 @@ use Rattle.config.specs.declared.Settings.{Settings}
 use Rattle.config.specs.declared.NackTimings.{NackTimings}
 use Rattle.model.specs.Lists.{keep, leading, trailing, some?}
 use Rattle.model.specs.Records.{Gap, gap_numbers}
-use Rattle.model.specs.Rules.{is, below, without, gaps_below, gaps_from, fresh, due, nacked, nacked_if_due, nack_due, tried, given_up_in, not_given_up_in, lost_below_of, left_from_of}
+use Rattle.model.specs.Rules.{is, below, without, gaps_below, gaps_from, due, nacked, nacked_if_due, nack_due, tried, given_up_in, not_given_up_in, lost_below_of, left_from_of}
 use Rattle.model.proofs.Lists.{by_cases, by_or, not-not, eqb_no}
 use Rattle.book.proofs.Count.{by-compare, same, same-yes, same_no, count, count_nil}
 
@@ -20,11 +20,6 @@ use Rattle.book.proofs.Count.{by-compare, same, same-yes, same_no, count, count_
 
 pub numbers_append : (xs ys : List Gap) → gap_numbers (xs ++ ys) ≡ gap_numbers xs ++ gap_numbers ys
 numbers_append xs ys = mathlib.Core.List.map-append _ xs ys
-
-pub numbers-fresh : (now : ℕ) (l : List ℕ) → gap_numbers (map (fresh now) l) ≡ l
-unfolding fresh
-numbers-fresh now [] = refl
-numbers-fresh now (x ∷ xs) = ap (λ (l : List ℕ). x ∷ l) (numbers-fresh now xs)
 
 pub numbers-nack_due : (t : NackTimings) (now : ℕ) (l : List Gap) → gap_numbers (nack_due t now l) ≡ gap_numbers l
 unfolding nacked_if_due nacked

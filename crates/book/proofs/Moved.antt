@@ -257,30 +257,30 @@ past_taken k {c} {s} {b} same f =
 
 -- ---- forgetting
 
-arrive-forgets : (c : Config) (now n : ℕ) (b : Book) (s : Span) → b.span ≡ s
-    → ((arrive now n (place_of (B.highest s) b.missing n) b).forgotten ≡ b.forgotten) ⊎ Forgets c now n b
-unfolding arrive place_of forgotten_by B.highest
-arrive-forgets c now n b none e = inl (append-nil b.forgotten)
-arrive-forgets c now n b (from_to f h) e =
-    by_cases goes (ltb h n)
-    (λ t. by_cases goes (leb (n - h) max_gap_size) (λ u. inl (append-nil b.forgotten)) (λ u. inr (step_over e (nleb→lt (n - h) max_gap_size u))))
-    (λ t. by_cases goes (some? (is n) b.missing) (λ u. inl (append-nil b.forgotten)) (λ u. inl (append-nil b.forgotten)))
-  where
-    goes : Place → Type 0
-    goes p = ((arrive now n p b).forgotten ≡ b.forgotten) ⊎ Forgets c now n b
+module _ (c : Config) (now n : ℕ) (b : Book) where
+  -- the book x has forgotten no more than b, or this is a packet that forgets
+  abbrev Remembers : Book → Type 0
+  Remembers x = (x.forgotten ≡ b.forgotten) ⊎ Forgets c now n b
 
-media_forgets : (c : Config) (now n : ℕ) (b : Book)
-    → ((on_media c now n (place_of (B.highest b.span) b.missing n) b).forgotten ≡ b.forgotten) ⊎ Forgets c now n b
-unfolding on_media within_depth
-media_forgets c now n b =
-    by_cases goes (waits (place_of (B.highest b.span) b.missing n))
-    (λ t.
-    by_cases goes (overfull c.settings (length (arrive now n (place_of (B.highest b.span) b.missing n) b).waiting)) (λ u. inr (push_out t u))
-    (λ u. arrive-forgets c now n b b.span refl))
-    (λ t. inl refl)
-  where
-    goes : Book → Type 0
-    goes x = (x.forgotten ≡ b.forgotten) ⊎ Forgets c now n b
+  arrive-forgets : (s : Span) → b.span ≡ s → Remembers (arrive now n (place_of (B.highest s) b.missing n) b)
+  unfolding arrive place_of forgotten_by B.highest
+  arrive-forgets none e = inl (append-nil b.forgotten)
+  arrive-forgets (from_to f h) e =
+      by_cases goes (ltb h n)
+      (λ t. by_cases goes (leb (n - h) max_gap_size) (λ u. inl (append-nil b.forgotten)) (λ u. inr (step_over e (nleb→lt (n - h) max_gap_size u))))
+      (λ t. by_cases goes (some? (is n) b.missing) (λ u. inl (append-nil b.forgotten)) (λ u. inl (append-nil b.forgotten)))
+    where
+      goes : Place → Type 0
+      goes p = Remembers (arrive now n p b)
+
+  media_forgets : Remembers (on_media c now n (place_of (B.highest b.span) b.missing n) b)
+  unfolding on_media within_depth
+  media_forgets =
+      by_cases Remembers (waits (place_of (B.highest b.span) b.missing n))
+      (λ t.
+      by_cases Remembers (overfull c.settings (length (arrive now n (place_of (B.highest b.span) b.missing n) b).waiting)) (λ u. inr (push_out t u))
+      (λ u. arrive-forgets b.span refl))
+      (λ t. inl refl)
 
 repair_forgets : (now n : ℕ) (b : Book) → (on_repair now n b).forgotten ≡ b.forgotten
 unfolding on_repair recover B.not_missing

@@ -15,10 +15,10 @@ use Rattle.model.specs.Lists.{following, some?}
 use Rattle.model.specs.Records.{gap_numbers}
 use Rattle.model.specs.Rules.{is, gaps_below, Place, first, near, far, fills, place_of, waits, between, fresh, gaps_after, max_gap_size, overfull, given_up_of, lost_below_of}
 use Rattle.model.specs.Calls.{Call, media, repair, poll, poll_nack, nack_wire, timeout_receive, timeout_nack, rtx_stats, highest_received}
-use Rattle.model.proofs.Lists.{by_cases}
+use Rattle.model.proofs.Lists.{by_cases, numbers-fresh}
 use Rattle.book.specs.Book.{Heard, refused, accepted, Span, none, from_to, highest, Book, empty, span_after, forgotten_by, arrive, push_out_of, within_depth, on_media, recover, not_missing, on_repair, give_up, take_lowest, on_poll, nack_all, read, enter, all_of, expected}
 use Rattle.book.proofs.Count.{same, count, count_append, count-put_in, count_one, count_cons, count_nil, following_append, count-following-le}
-use Rattle.book.proofs.Gaps.{numbers_append, numbers-fresh, numbers-nack_due, count-below, count-given-up, count-lost-below, some-counted, count-without}
+use Rattle.book.proofs.Gaps.{numbers_append, numbers-nack_due, count-below, count-given-up, count-lost-below, some-counted, count-without}
 
 -- how often n stands in the five lists
 unfoldable pub total : ℕ → Book → ℕ

@@ -14,7 +14,7 @@ use Rattle.model.specs.declared.Session.{Session}
 use Rattle.model.specs.Records.{new_state}
 use Rattle.model.specs.Storage.{Storage, Stored, parse, write}
 use Rattle.model.specs.Calls.{Call, taken, answered}
-use Rattle.model.specs.Table.{session_refusal, call_refusal, refusal, opening_refusal}
+use Rattle.model.specs.Table.{session_refusal, refusal, opening_refusal}
 use Rattle.model.specs.Did as D
 use Rattle.model.specs.Did.{Done, did, turned_back, accepted, session, opened}
 use Rattle.model.proofs.Laid.{parse-write}
@@ -69,10 +69,6 @@ module _ (c : Config) (x : Run) (k : Call) (e : refusal k x.stored ≡ 0) where
   pub call-answer : (did k x.stored).answer ≡ answered k (parse x.stored)
   unfolding did accepted
   call-answer = rw (eq-eqb (refusal k x.stored) 0 e)
-
-  pub not_caught : call_refusal k (parse x.stored) ≡ 0
-  unfolding refusal
-  not_caught = (or_else-none _ _ e).1
 
 ran_calls : (c : Config) (ks : List Call) (x : Run) → Ran c (view_of x) → Ran c (view_of (foldl (call c) x ks))
 ran_calls c [] x r = r
@@ -139,9 +135,9 @@ made-sound {c} (opening t {u = u} {s = s} o) =
 made-sound {c} (further {x = x} k m e) = subst (λ (d : Done). session_refusal d.stored ≡ 0) e (passes k x.stored (made-sound m))
 
 pub every_run : EveryRun
-every_run =
+every_run c ks x m =
     record {
-      is_calls = λ c ks x m. made-calls m;
-      holds = λ c ks x m. every_run_of_states.holds c _ (made_ran m);
-      steps = λ c ks x k m. every_run_of_states.steps c _ _ k (made_ran m) (next_call c x k);
+      is_calls = made-calls m;
+      holds = every_run_of_states.holds c _ (made_ran m);
+      steps = λ k. every_run_of_states.steps c _ _ k (made_ran m) (next_call c x k);
     }

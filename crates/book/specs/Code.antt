@@ -18,8 +18,12 @@ pub data Made (c : Config) : List Call → Run → Type 0 where
   further : {ks : List Call} {x : Run} (k : Call) {a : Answer} {y : Stored} {output : List ℕ} → Made c ks x → Does k x.stored a y output
       → Made c (ks ++ (k ∷ [])) (record { stored = y; book = enter c k (hear a) x.book; returned = x.returned ++ given a })
 
-pub record EveryRun : Type 0 where
+-- what is shown of a run of the calls ks that came to x
+pub record Shown (c : Config) (ks : List Call) (x : Run) : Type 0 where
   -- so what is said of `calls` is said of code
-  pub is_calls : (c : Config) (ks : List Call) (x : Run) → Made c ks x → x ≡ calls c ks
-  pub holds : (c : Config) (ks : List Call) (x : Run) → Made c ks x → Holds c x
-  pub steps : (c : Config) (ks : List Call) (x : Run) (k : Call) → Made c ks x → Step c x k
+  pub is_calls : x ≡ calls c ks
+  pub holds : Holds c x
+  pub steps : (k : Call) → Step c x k
+
+abbrev pub EveryRun : Type 0
+EveryRun = (c : Config) (ks : List Call) (x : Run) → Made c ks x → Shown c ks x

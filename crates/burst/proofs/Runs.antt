@@ -108,9 +108,4 @@ made {c} (R.refused_burst {ks = ks} {x = x} now buffer ends lent h k e) =
     subst (λ (z : Stored). Made c ks (record { stored = z; book = x.book; returned = x.returned })) (sym (refused-burst now buffer ends lent x.stored _ e k)) (made h)
 
 pub every_run_with_bursts : EveryRunWithBursts
-every_run_with_bursts =
-    record {
-      is_calls = λ c ks x h. every_run.is_calls c ks x (made h);
-      holds = λ c ks x h. every_run.holds c ks x (made h);
-      steps = λ c ks x k h. every_run.steps c ks x k (made h);
-    }
+every_run_with_bursts c ks x h = every_run c ks x (made h)

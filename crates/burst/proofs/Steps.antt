@@ -28,9 +28,6 @@ use Rattle.burst.specs.Standing.{Stands, after_sound}
 
 -- ---- what a call leaves
 
-apart : ◌≡◌ {A = ℕ} 0 1 → ⊥
-apart e = omega arith
-
 settled-by : (k : Call) (m m2 : Stored) → refusal k m ≡ 0 → m2 ≡ (did k m).stored → storage.Settled m2
 settled-by k m m2 z e =
     let w = e ∙ did-taken k m z in
@@ -52,8 +49,8 @@ module _ (k : Call) (m m2 : Stored) (a : Answer) (out : List ℕ) (e : Does k m 
 
 pub sound_next : (k : Call) (m m2 : Stored) (a : Result Media Refusal) (out : List ℕ) → Does k m (media_answer a) m2 out → session_sound m ≡ true → Stands (after_sound a) m2
 unfolding Stands
-sound_next k m m2 (Ok Media.Queued) out e h = ⊎_elim (λ s. s) (λ r. absurd (apart (let d = r.1 in cc))) (left k m m2 queued out e)
-sound_next k m m2 (Ok Media.Dropped) out e h = ⊎_elim (λ s. s) (λ r. absurd (apart (let d = r.1 in cc))) (left k m m2 dropped out e)
+sound_next k m m2 (Ok Media.Queued) out e h = ⊎_elim (λ s. s) (λ r. absurd (let d = r.1 in cc)) (left k m m2 queued out e)
+sound_next k m m2 (Ok Media.Dropped) out e h = ⊎_elim (λ s. s) (λ r. absurd (let d = r.1 in cc)) (left k m m2 dropped out e)
 sound_next k m m2 (Err n) out e h = ⊎_elim (λ s. s.sound) (λ r. ap session_sound r.0 ∙ h) (left k m m2 (refused (number n)) out e)
 
 -- ---- how the session stands

@@ -8,7 +8,8 @@ use Rattle.model.specs.Calls.{Call, Answer, media}
 use Rattle.model.specs.Did.{session}
 use Rattle.model.specs.Contract.{Opens, Does}
 use Rattle.book.specs.Book.{Heard, refused, accepted, Book, empty, enter}
-use Rattle.book.specs.Claim.{hear, given, Run, calls, Holds, Step}
+use Rattle.book.specs.Claim.{hear, given, Run}
+use Rattle.book.specs.Code.{Shown}
 use Rattle.burst.specs.Burst.{datagrams, is_accepted, did_burst}
 
 -- of a datagram's answer number
@@ -38,8 +39,6 @@ pub data MadeWith (c : Config) : List Call → Run → Type 0 where
       → did_burst now buffer ends lent x.stored ≡ record { refusal = r; count = n; stored = y; output = output }
       → MadeWith c ks (record { stored = y; book = x.book; returned = x.returned })
 
-pub record EveryRunWithBursts : Type 0 where
-  -- so what is said of `calls` is said of runs with bursts among the calls
-  pub is_calls : (c : Config) (ks : List Call) (x : Run) → MadeWith c ks x → x ≡ calls c ks
-  pub holds : (c : Config) (ks : List Call) (x : Run) → MadeWith c ks x → Holds c x
-  pub steps : (c : Config) (ks : List Call) (x : Run) (k : Call) → MadeWith c ks x → Step c x k
+-- so what is said of `calls` is said of runs with bursts among the calls
+abbrev pub EveryRunWithBursts : Type 0
+EveryRunWithBursts = (c : Config) (ks : List Call) (x : Run) → MadeWith c ks x → Shown c ks x

@@ -42,17 +42,10 @@ struct Stepped {
 fn ends_fit(bytes: usize, ends: &[u64]) -> bool
     ensures { result ≡ ends_fit bytes 0 ends.now }
 {
-    let mut from = 0;
-    for &end in ends {
-        if end < from {
-            return false;
-        }
-        if (bytes as u64) < end {
-            return false;
-        }
-        from = end;
-    }
-    true
+    let Some(&last) = ends.last() else {
+        return true;
+    };
+    ends.is_sorted() && last <= bytes as u64
 }
 
 // 15, for the whole call.
@@ -83,7 +76,7 @@ fn answer_number(answer: Result<Media, Refusal>) -> u8
 }
 
 // By check 16.
-// Stays: it is told by a check, and no value is converted.
+// Stays: `From` would have the same body, and its name would not say that check 16 is made.
 #[tactic(auto, using(crate::proofs::Steps::damaged_is), unfolding(crate::specs::Standing::Stands))]
 fn standing_of(q: &Held) -> Standing
     ensures { Stands result (held q.now) }
@@ -104,14 +97,14 @@ fn after_sound(answer: Result<Media, Refusal>) -> Standing
 }
 
 // One datagram: the single media call, without the checks and the zeros that are behind the session already.
-// Stays: how the session stands is an enum, and the two functions are the steps of `push`.
+// Stays: the instant is one call's, a datagram is that of one turn; a type of them would be made by `push_each` at each turn.
 fn push_next(q: &mut Held, standing: Standing, instant: u64, datagram: &[u8]) -> Stepped
     requires { Stands standing (held q.old) }
     ensures same_slices { SameSlices q.old q.new }
     ensures does { Does (media instant datagram.now) (held q.old) (media_answer result.answer) (held q.new) [] }
     ensures stands { Stands result.standing (held q.new) }
 {
-    // Stays: an enum says which step.
+    // Stays: the two calls ask for different things (`session_sound`, `Settled`), which one closure could not.
     match standing {
         Standing::Damaged => Stepped {
             answer: Err(Refusal::Session),
@@ -130,6 +123,7 @@ fn push_next(q: &mut Held, standing: Standing, instant: u64, datagram: &[u8]) ->
 }
 
 // The datagrams one after the other, each on what the one before left, with their answers.
+// Stays: C lends buffer, ends and answers; a type that has them and the bound would be made by `push_burst`, for this function alone.
 fn push_each(
     q: &mut Held,
     first: Standing,
@@ -157,6 +151,7 @@ fn push_each(
 
 // Media packets in datagrams that came together, at this instant: the first from byte 0 of the buffer to the first end, each further one from
 // there to the next. One answer number is written for each: 0 queued, 255 dropped, else the refusal. The result says how many were written.
+// Stays: the exported function has these parameters (the C interface).
 pub fn push_burst(
     q: &mut Held,
     now: u64,
@@ -174,7 +169,7 @@ pub fn push_burst(
 }
 
 // Whether one of the first n answers is no refusal.
-// Stays: the list is lent for the largest burst, and how much of it was written is the call's answer.
+// Stays: `take n` is total; to hand over a part of the list, the caller would have to show that no more were written than it holds.
 pub fn any_accepted(answers: &[u8], n: usize) -> bool
     ensures { result ≡ some? is_accepted (take n answers.now) }
 {

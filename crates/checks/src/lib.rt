@@ -14,6 +14,7 @@ use refusals::Refusal;
 use rtp::ExtendedSequenceNumber;
 
 // 8: "instant above 2^52 − 1, or before the latest accepted one".
+// Stays: the instant is one call's; a type of queue and instant would be made at each call, for this test alone.
 pub fn check_clock(q: Queue, now: u64) -> Result<(), Refusal>
     ensures { refusal_of result ≡ Table.clock_refusal q now }
 {
@@ -56,10 +57,7 @@ pub fn config_valid(c: Config) -> bool
 fn last_sound(clock: u64, last: Option<Received>) -> bool
     ensures { result ≡ Valid.last_sound clock last }
 {
-    match last {
-        None => true,
-        Some(r) => (r.instant <= clock) & fits(r.timestamp.0) & fits(r.number.0),
-    }
+    last.is_none_or(|r| (r.instant <= clock) & fits(r.timestamp.0) & fits(r.number.0))
 }
 
 fn returned_sound(last: Option<Received>, returned: Option<ExtendedSequenceNumber>) -> bool

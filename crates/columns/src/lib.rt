@@ -35,7 +35,7 @@ pub fn write(field: &mut [u8], n: u64)
     let last = field.len() - 1;
     field[last] = glyph(n);
     let mut rest = n / 10;
-    // Stays: each column hangs on what the one behind it left, which a chain of iterators would have to carry.
+    // Stays: `iter_mut().rev()` was tried: of a slice lent to an adapter of `iter_mut` the proof knows no element afterwards.
     for i in (0..last).rev() {
         field[i] = column(rest);
         rest /= 10;
@@ -43,6 +43,7 @@ pub fn write(field: &mut [u8], n: u64)
 }
 
 // Puts n into the field of `width` columns that begins at `at`; the other bytes of the page stay.
+// Stays: were the field itself lent, each caller would cut it and prove that the rest of the page stays, which `written` says here once.
 pub fn write_at(page: &mut [u8], at: usize, width: usize, n: u64)
     requires { at + width ≤ length page.old }
     ensures { page.new ≡ written at (justified width n) page.old }

@@ -95,9 +95,6 @@ delay-le s j p rtt v = go s.mode refl
     go (SortedQueue (Dynamic d)) e = subst (λ (m : RtpInboundQueueMode). delay_in m s j p rtt ≤ longest) e (le_trans (within s d e v j p rtt).1 (own s d e v).most)
 
 -- ---- no less for more loss
-max_mono : (a b c : ℕ) → b ≤ c → max a b ≤ max a c
-max_mono a b c h = omega arith
-
 clamp_mono : (low high a b : ℕ) → low ≤ high → a ≤ b → clamp low high a ≤ clamp low high b
 unfolding clamp
 clamp_mono low high a b o h = go (ltb a low) (ltb high a) (ltb b low) (ltb high b) refl refl refl refl
@@ -118,7 +115,7 @@ module _ (j : Jitter) (p q : PacketLoss) (P : T (loss_in_range p)) (Q : T (loss_
   repairs_grow target most None delay = le_refl delay
   repairs_grow target most (Some e) delay =
       let n : attempts_of (loss_of p.loss) target most ≤ attempts_of (loss_of q.loss) target most = attempts_grow (loss_of p.loss) (loss_of q.loss) target most (loss-grows p q P Q h) in
-      max_mono delay _ _ (mul-le-mul_right 2 (mul-le-mul (le_refl (nack_resend_delay e)) n))
+      omega (arith, mul-le-mul_right 2 (mul-le-mul (le_refl (nack_resend_delay e)) n))
 
   pub grows : (s : Settings) (rtt : Option RtxRtt) → T (settings_valid s) → target_delay s j p rtt ≤ target_delay s j q rtt
   unfolding delay_in dynamic_delay

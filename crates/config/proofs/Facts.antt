@@ -15,13 +15,12 @@ use Rattle.config.specs.declared.Settings.{Settings}
 pub record Usable (s : Settings) : Type 0 where
   pub rate-some : 1 ≤ s.clock_rate
   pub rate : s.clock_rate ≤ 1000000
-  pub entries-some : 1 ≤ s.max_entries
   pub entries : s.max_entries ≤ 1024
-  pub gaps-some : 999 ≤ s.max_gaps
   pub gaps : s.max_gaps ≤ 4096
   pub delay : s.delay ≤ longest
   pub initial : s.initial_nack_delay ≤ longest
   pub resend : s.default_nack_resend_delay ≤ longest
+  -- Stays: `target_delay` has a goal that needs it, and the tactic finds it there without its name.
   pub attempts-some : 1 ≤ s.max_nack_attempts
   pub attempts : s.max_nack_attempts ≤ most_attempts s.mode
   pub mode : T (mode_valid s.mode)
@@ -60,9 +59,7 @@ usable s t =
     record {
       rate-some = rate.0;
       rate = rate.1;
-      entries-some = entries.0;
       entries = entries.1;
-      gaps-some = gaps.0;
       gaps = gaps.1;
       delay = leb→le s.delay longest p.3;
       initial = leb→le s.initial_nack_delay longest p.4;

@@ -19,6 +19,7 @@ fn jitter_delay(jitter: Jitter) -> u64
 }
 
 // What repairs ask for: twice as long as the attempts take.
+// Stays: a session's words may hold any float as its loss until check 16 (the C interface), so that its type cannot hold the range.
 #[tactic(auto, using(crate::proofs::Bounds::repairs_lt, nack_attempts::proofs::Powers::loss_most), unfolding(packet_loss::specs::Loss::loss_in_range, crate::specs::Delay::nack_delay))]
 fn nack_delay(target: u64, most: u32, loss: PacketLoss, e: RtxRtt) -> u64
     requires target_and_most_in_range { (target ≤ 9999) × (1 ≤ most) × (most ≤ 4) }
@@ -30,6 +31,7 @@ fn nack_delay(target: u64, most: u32, loss: PacketLoss, e: RtxRtt) -> u64
     e.nack_resend_delay() * n * 2
 }
 
+// Stays: check 16 bounds the loss, and its type cannot, as at `nack_delay`.
 #[tactic(auto, using(crate::proofs::Bounds::clamp_is), unfolding(rtx_state::specs::RoundTrip::opt_rtt_in_range, crate::specs::Delay::dynamic_delay, crate::specs::Delay::with_repairs))]
 pub(crate) fn delay(
     d: RtpInboundStreamDynamicConfig,

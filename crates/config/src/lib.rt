@@ -105,7 +105,7 @@ pub struct NackTimings {
 }
 
 // The mode that a trace or a word at the boundary names by 0, 1 or 2, with what mode 2 alone has; the reader of either refuses another number.
-// Stays: of two parameters, and total: the reader of a trace or a word refuses another number before.
+// Stays: the definition is total and four readers cite it; each refuses another number by a test of its own (a line by its version).
 #[tactic(auto, unfolding(crate::specs::Mode::mode_of))]
 pub fn mode_of(number: u64, dynamic: RtpInboundStreamDynamicConfig) -> RtpInboundQueueMode
     ensures { result ≡ mode_of number dynamic }
@@ -196,17 +196,14 @@ impl Settings {
     pub fn nack_timings(self, rtt: Option<RtxRtt>) -> NackTimings
         ensures { result ≡ nack_timings self rtt }
     {
-        let resend = match rtt {
-            None => self.default_nack_resend_delay,
-            Some(e) => e.nack_resend_delay(),
-        };
         NackTimings {
             initial: self.initial_nack_delay,
-            resend,
+            resend: rtt.map_or(self.default_nack_resend_delay, |e| e.nack_resend_delay()),
         }
     }
 
     // How long a packet is kept.
+    // Stays: a session's words may hold any settings, loss and round trip until check 16 (the C interface); no type holds the range.
     #[tactic(auto, using(crate::proofs::Facts::usable, crate::proofs::Bounds::own, crate::proofs::Bounds::few), unfolding(crate::specs::Delay::delay_in))]
     pub fn target_delay(self, jitter: Jitter, loss: PacketLoss, rtt: Option<RtxRtt>) -> u64
         requires { T (settings_valid self) × T (loss_in_range loss) × T (opt_rtt_in_range rtt) }

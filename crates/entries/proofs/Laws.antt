@@ -215,6 +215,9 @@ module _ {words bytes : List ℕ} {n : ℕ} (k : EntriesIn words bytes n) (h : 0
   pub front_fits : r.size ≤ payload_bytes
   front_fits = place-fits words bytes n 0 h r e k.places k.fit
 
+  pub front_there : r.size ≤ length bytes
+  front_there = omega (arith, front_fits, k.places)
+
   pub front_is : take 1 (entries_of words bytes n) ≡ entry r (take r.size bytes) ∷ []
   front_is = take-suc (entries_of words bytes n) 0 no_entry (rw length-entries_of h) ∙ ap (λ (x : Entry). x ∷ []) (place_is words bytes n 0 h r e k.places k.fit)
 

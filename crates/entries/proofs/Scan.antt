@@ -53,12 +53,13 @@ module _ (words bytes : List ℕ) (n i : ℕ) (h : i < n) (r : Row.Entry)
         tested = p ∙ sym (ap (entry_sound b gaps) (read_is words bytes n i h r e) ∙ rw (read-size words bytes n i h r e, em));
       }
 
--- the number at a place
-pub number_word : (words bytes : List ℕ) (n i : ℕ) → i < n → get_or words (entry_words * i) 0 ≡ get_or (entry_numbers (entries_of words bytes n)) i 0
-number_word words bytes n i h = sym (ap (λ (l : List ℕ). get_or l i 0) (entry-numbers words bytes n) ∙ first-at entry_words n words i (omega arith) h)
+module _ (words bytes : List ℕ) (n i : ℕ) where
+  -- the number at a place
+  pub number_word : i < n → get_or words (entry_words * i) 0 ≡ get_or (entry_numbers (entries_of words bytes n)) i 0
+  number_word h = sym (ap (λ (l : List ℕ). get_or l i 0) (entry-numbers words bytes n) ∙ first-at entry_words n words i (omega arith) h)
 
-pub scan_end : (words bytes : List ℕ) (n i : ℕ) → n ≤ i → (b : Bounds) (gaps : List Gap) → entries_left b gaps words bytes n i ≡ true
-scan_end words bytes n i h b gaps = left_end number_of (entry_sound b gaps) (entries_of words bytes n) i (omega (arith, length-entries_of words bytes n))
+  pub scan_end : n ≤ i → (b : Bounds) (gaps : List Gap) → entries_left b gaps words bytes n i ≡ true
+  scan_end h b gaps = left_end number_of (entry_sound b gaps) (entries_of words bytes n) i (omega (arith, length-entries_of words bytes n))
 
 -- ---- `tidy_places`
 

@@ -42,13 +42,15 @@ fn entry_sound(b: Bounds, missing: bool, e: Entry) -> bool
 
 // Whether the numbers of the n entries ascend, and each entry keeps to the bounds and has not the number of one of the m gaps. The
 // payloads' bytes are not looked at.
-// Stays: the caller lends the words (the C interface), and the session has the count.
+// Stays: the contract is of `entries_of words bytes n` and `gaps_of gaps m`; of parts of the slices the caller would have to show that
+// their records are those. The order of the gaps is asked for: that is checked before, of a session that C may hand over damaged.
 #[tactic(auto, using(crate::proofs::Scan::sounding), unfolding(packet_gaps::proofs::Turns::left))]
 pub fn are_sound(words: &[u64], n: usize, b: Bounds, gaps: &[u64], m: usize) -> bool
     requires n_in_bounds { (entry_words * n ≤ length words.now) × (gap_words * m ≤ length gaps.now) }
     requires m_value { ascends (gap_numbers (gaps_of gaps.now m)) ≡ true }
     ensures { (bytes : List ℕ) → result ≡ entries_sound (bounds b) (gaps_of gaps.now m) (entries_of words.now bytes n) }
 {
+    // Stays: as in `packet_gaps::nacks::any_full`; and each turn looks at the next entry's number too.
     for i in 0..n {
         let e = super::read(words, i);
         let missing = packet_gaps::contains(gaps, m, e.number);
@@ -64,13 +66,14 @@ pub fn are_sound(words: &[u64], n: usize, b: Bounds, gaps: &[u64], m: usize) -> 
 }
 
 // Zeros in each payload's place after the payload, and in all places after the n-th.
-// Stays: the caller lends the words (the C interface), and the session has the count.
+// Stays: the contract is of the whole slices, zeros behind the entries too, so n entries alone would not do; no struct: see lib.rt's head.
 #[tactic(auto, using(crate::proofs::Scan::tidying))]
 fn tidy_places(words: &[u64], bytes: &mut [u8], n: usize)
     requires n_in_bounds { (entry_words * n ≤ length words.now) × (payload_bytes * n ≤ length bytes.old) }
     requires n_value { every? fits (entries_of words.now bytes.old n) ≡ true }
     ensures { bytes.new ≡ laid payload_bytes_of (length bytes.old) (entries_of words.now bytes.old n) }
 {
+    // Stays: each turn writes to its payload's place, and the library's `as_chunks_mut` has no contract of what the slice ends as.
     for i in 0..n {
         let e = super::read(words, i);
         words::tidy_place(bytes, PAYLOAD_BYTES * i, PAYLOAD_BYTES, e.size);
@@ -79,7 +82,7 @@ fn tidy_places(words: &[u64], bytes: &mut [u8], n: usize)
 }
 
 // Zeros wherever nothing of the n entries stands.
-// Stays: the caller lends the words (the C interface), and the session has the count.
+// Stays: the contract is of the whole slices, zeros behind the entries too, so n entries alone would not do; no struct: see lib.rt's head.
 #[tactic(auto, using(crate::proofs::Scan::words_tidied))]
 pub fn tidy(words: &mut [u64], bytes: &mut [u8], n: usize)
     requires n_in_bounds { (entry_words * n ≤ length words.old) × (payload_bytes * n ≤ length bytes.old) }

@@ -1,6 +1,7 @@
 // 000's queue of entries, ascending by number, in counted places of two lent slices: four words for each entry, and 320 bytes for its
 // payload. The session keeps their count n. Where a function wants `EntriesIn`, `check::tidy` made it so.
-// Stays: the slices and n are parameters of their own, since the caller lends the slices, and the session, which it lends apart, has the count.
+// Why no struct of the slices and n: it would be lent anew at each step, and of a slice lent to a function that builds a struct the checker
+// knows only the length when that function returns (as of `Held` in crate ffi), so `EntriesIn` would not come back with it.
 #![tactic(auto)]
 
 ghost use Rattle.std.specs.Prelude.{◌≡◌, true, List, [], ◌∷◌, ℕ, ◌+◌, ◌*◌, ◌^◌, ◌≤◌, ◌<◌, length, take, drop};
@@ -71,7 +72,8 @@ pub fn read(words: &[u64], i: usize) -> Entry
 }
 
 // Puts an entry in before the first that is not below it (`insert_sorted`).
-// Stays: the caller lends the words (the C interface), and the session has the count.
+// Stays: the contract is of the whole slices, zeros behind the entries too, so n entries alone would not do; no struct: see the head.
+// `EntriesIn` is asked for, since it holds once check 16 has passed a session that C may hand over damaged.
 #[tactic(auto, using(crate::proofs::Laws::inserting))]
 pub fn insert(words: &mut [u64], bytes: &mut [u8], n: usize, e: Entry, payload: &[u8])
     requires entries_in { EntriesIn words.old bytes.old n }
@@ -95,7 +97,8 @@ pub fn insert(words: &mut [u64], bytes: &mut [u8], n: usize, e: Entry, payload: 
 
 // Puts an entry in while the first one goes out, so that no place more is needed. Where it would itself be the first, nothing moves. The
 // answer is the number of the one that is out.
-// Stays: the caller lends the words (the C interface), and the session has the count.
+// Stays: the contract is of the whole slices, zeros behind the entries too, so n entries alone would not do; no struct: see the head.
+// `EntriesIn` is asked for, since it holds once check 16 has passed a session that C may hand over damaged.
 #[tactic(auto, using(crate::proofs::Laws::inserting))]
 pub fn push_out(
     words: &mut [u64],
@@ -123,7 +126,9 @@ pub fn push_out(
 }
 
 // Takes the first entry out. Its payload goes straight across to the front of `out` (02, point 3), which keeps the bytes after it.
-// Stays: the caller lends the words (the C interface), and the session has the count.
+// Stays: the contract is of the whole slices, zeros behind the entries too, so n entries alone would not do; no struct: see the head.
+// `EntriesIn` is asked for, since it holds once check 16 has passed a session that C may hand over damaged. C lends `out`, which
+// may be longer than a payload's place.
 #[tactic(auto, using(crate::proofs::Laws::popping))]
 pub fn pop_front(words: &mut [u64], bytes: &mut [u8], n: usize, out: &mut [u8]) -> Entry
     requires entries_in { EntriesIn words.old bytes.old n }

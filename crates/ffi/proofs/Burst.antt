@@ -7,6 +7,11 @@ use native.Mathlib.Omega.{arith}
 use lib.Dec.{eqb}
 use lib.ListN.{length, take}
 use borrow.Author.Tests.{ne_eqb}
+use Rattle.std.proofs.lemmas.Bool.{or_parts}
+use Rattle.std.specs.Prelude.{Result, Ok, Err}
+use Rattle.std.specs.Result.{result_unwrap_or}
+use Rattle.refusals.specs.declared.Refusal.{Refusal}
+use Rattle.refusals.specs.Refusals.{refusal_of}
 use Rattle.model.specs.declared.Session.{Session}
 use Rattle.model.specs.Lists.{some?}
 use Rattle.model.specs.Rules.{waits}
@@ -17,7 +22,7 @@ use Rattle.model.specs.Table.{refusal}
 use Rattle.model.specs.Did.{Done, did, accepted, turned_back}
 use Rattle.book.specs.Book.{enter}
 use Rattle.book.specs.Claim.{Run}
-use Rattle.burst.specs.Burst.{datagrams, pushed, answer_number, is_accepted, answer_numbers, burst_refusal, BurstDone, did_burst}
+use Rattle.burst.specs.Burst.{datagrams, pushed, answer_number, is_accepted, answer_numbers, burst_refusal, BurstDone, written, did_burst}
 use Rattle.burst.specs.Runs.{heard, enter_each}
 use Rattle.burst.proofs.Steps.{small-refusal}
 use Rattle.burst.proofs.Runs.{accepted-burst}
@@ -38,11 +43,12 @@ use Rattle.ffi.proofs.Runs.{stands}
 -- ---- what the exported call gives
 
 module _ (now : ℕ) (buffer ends lent : List ℕ) (w : SessionWords) (t : Storage) where
-  pub burst-given : {s left : Session} {k n : ℕ} {after : Storage} {out : List ℕ} {b : Bool} {r : PushedBurst} → s ≡ session_in w
-      → did_burst now buffer ends lent (record { session = s; storage = t }) ≡ record { refusal = k; count = n; stored = record { session = left; storage = after }; output = out }
-      → b ≡ some? is_accepted (take n out) → r ≡ burst_told k n b w left → called_burst now buffer ends lent w t ≡ record { value = r; storage = after; output = out }
+  pub burst-given : {s left : Session} (done : Result ℕ Refusal) {after : Storage} {out : List ℕ} {b : Bool} {r : PushedBurst} → s ≡ session_in w
+      → did_burst now buffer ends lent (record { session = s; storage = t }) ≡ record { refusal = refusal_of done; count = written done; stored = record { session = left; storage = after }; output = out }
+      → b ≡ some? is_accepted (take (result_unwrap_or done 0) out) → r ≡ burst_told (refusal_of done) (result_unwrap_or done 0) b w left → called_burst now buffer ends lent w t ≡ record { value = r; storage = after; output = out }
   unfolding called_burst told_burst
-  burst-given e d a g = rw (← e, d, g, a)
+  burst-given (Ok n) e d a g = rw (← e, d, g, a)
+  burst-given (Err k) e d a g = rw (← e, d, g, a)
 
 -- ---- one exported media call, by its answer number
 
@@ -94,15 +100,11 @@ module _ (now : ℕ) (d : List ℕ) (m : Stored) where
       go true e = absurd (none (waits (media_place (parse m) (media_entry_of now d (parse m).queue).number)) e)
       go false e = refl
 
-or_false : (a b : Bool) → (a || b) ≡ false → (a ≡ false) × (b ≡ false)
-or_false false b e = (refl, e)
-or_false true b e = absurd (let z : ◌≡◌ {A = Bool} true false = e in let y : ◌≡◌ {A = ℕ} 0 1 = cc in omega arith)
-
 none-accepted : (now : ℕ) (ds : List (List ℕ)) (m : Stored) → some? is_accepted (answer_numbers now ds m) ≡ false → pushed now ds m ≡ m
 unfolding some? answer_numbers pushed
 none-accepted now [] m e = refl
 none-accepted now (d ∷ ds) m e =
-    let o = or_false (is_accepted (number now d m)) (some? is_accepted (answer_numbers now ds (did (media now d) m).stored)) e in
+    let o = or_parts (is_accepted (number now d m)) (some? is_accepted (answer_numbers now ds (did (media now d) m).stored)) e in
     none-accepted now ds (did (media now d) m).stored o.1 ∙ kept now d m o.0
 
 -- the words that the caller has after the datagrams

@@ -79,37 +79,38 @@ unfolding front_out_of
 front_fits [] s h = h
 front_fits (e ∷ es) s h = record { rate_fits = h.rate_fits; jitter_fits = h.jitter_fits; loss_fits = h.loss_fits }
 
-queued_fits : (now : ℕ) (e : Entry) (p : Place) (s : State) → StateFits s → StateFits (after_queued now e p s)
-unfolding after_queued record_received
-queued_fits now e p s h =
-    let k = heard-fits now e.timestamp s.queue h in
-    record { rate_fits = k.rate_fits; jitter_fits = k.jitter_fits; loss_fits = add-fits binary32 _ _ }
-
-dropped_fits : (now ts : ℕ) (s : State) → StateFits s → StateFits (after_dropped now ts s)
-unfolding after_dropped
-dropped_fits now ts s h =
-    let k = heard-fits now ts s.queue h in
-    record { rate_fits = k.rate_fits; jitter_fits = k.jitter_fits; loss_fits = k.loss_fits }
-
 depth_fits : (s : State) → StateFits s → StateFits (within_depth s)
 unfolding within_depth
 depth_fits s h = either StateFits (overfull s.queue.config.settings (length s.entries)) (front_out_of s.entries s) s (front_fits s.entries s h) h
 
-placed_fits : (now : ℕ) (e : Entry) (p : Place) (s : State) → StateFits s → StateFits (after_placed now e p s)
-unfolding after_placed
-placed_fits now e p s h =
-    let queued = after_queued now e p s in
-    either StateFits (waits p) (within_depth queued) (after_dropped now e.timestamp s) (depth_fits queued (queued_fits now e p s h)) (dropped_fits now e.timestamp s h)
+module _ (now : ℕ) (s : State) (h : StateFits s) where
+  queued_fits : (e : Entry) (p : Place) → StateFits (after_queued now e p s)
+  unfolding after_queued record_received
+  queued_fits e p =
+      let k = heard-fits now e.timestamp s.queue h in
+      record { rate_fits = k.rate_fits; jitter_fits = k.jitter_fits; loss_fits = add-fits binary32 _ _ }
 
-fate-fits : (now : ℕ) (e : Entry) (f : Fate) (s : State) → StateFits s → StateFits (after_fate now e f s)
-unfolding after_fate
-fate-fits now e too_late s h = record { rate_fits = h.rate_fits; jitter_fits = h.jitter_fits; loss_fits = h.loss_fits }
-fate-fits now e redundant s h = record { rate_fits = h.rate_fits; jitter_fits = h.jitter_fits; loss_fits = h.loss_fits }
-fate-fits now e recovered s h = record { rate_fits = h.rate_fits; jitter_fits = h.jitter_fits; loss_fits = lost_fits s.queue.loss 1 h.loss_fits }
+  dropped_fits : (ts : ℕ) → StateFits (after_dropped now ts s)
+  unfolding after_dropped
+  dropped_fits ts =
+      let k = heard-fits now ts s.queue h in
+      record { rate_fits = k.rate_fits; jitter_fits = k.jitter_fits; loss_fits = k.loss_fits }
 
-drained-fits : (now : ℕ) (s : State) → StateFits s → StateFits (drained now s)
-unfolding drained
-drained-fits now s h = lose-fits _ _ (record { rate_fits = h.rate_fits; jitter_fits = h.jitter_fits; loss_fits = h.loss_fits })
+  placed_fits : (e : Entry) (p : Place) → StateFits (after_placed now e p s)
+  unfolding after_placed
+  placed_fits e p =
+      let queued = after_queued now e p s in
+      either StateFits (waits p) (within_depth queued) (after_dropped now e.timestamp s) (depth_fits queued (queued_fits e p)) (dropped_fits e.timestamp)
+
+  fate-fits : (e : Entry) (f : Fate) → StateFits (after_fate now e f s)
+  unfolding after_fate
+  fate-fits e too_late = record { rate_fits = h.rate_fits; jitter_fits = h.jitter_fits; loss_fits = h.loss_fits }
+  fate-fits e redundant = record { rate_fits = h.rate_fits; jitter_fits = h.jitter_fits; loss_fits = h.loss_fits }
+  fate-fits e recovered = record { rate_fits = h.rate_fits; jitter_fits = h.jitter_fits; loss_fits = lost_fits s.queue.loss 1 h.loss_fits }
+
+  drained-fits : StateFits (drained now s)
+  unfolding drained
+  drained-fits = lose-fits _ _ (record { rate_fits = h.rate_fits; jitter_fits = h.jitter_fits; loss_fits = h.loss_fits })
 
 hand_out-fits : (es : List Entry) (s : State) → StateFits s → StateFits (hand_out es s)
 unfolding hand_out
@@ -120,8 +121,8 @@ hand_out-fits (e ∷ es) s h =
 
 pub taken-fits : (k : Call) (s : State) → StateFits s → StateFits (taken k s)
 unfolding taken after_media after_repair after_poll after_poll_nack nack_all
-taken-fits (media now d) s h = placed_fits now _ _ s h
-taken-fits (repair now d) s h = fate-fits now _ _ s h
+taken-fits (media now d) s h = placed_fits now s h _ _
+taken-fits (repair now d) s h = fate-fits now s h _ _
 taken-fits (poll now out) s h = hand_out-fits (going_out now s s.entries) (drained now s) (drained-fits now s h)
 taken-fits (poll_nack now out) s h = drained-fits now s h
 taken-fits (nack_wire now out) s h = drained-fits now s h

@@ -214,7 +214,7 @@ module _ {c : ConfigWords} {ks : List Call} {w : SessionWords} {x : Run} (s : St
 
   lost-told : x.stored.session.queue.counters.lost ≡ length x.book.lost
   unfolding parse
-  lost-told = (every_run.holds (config_of c) ks x s.made).lost_counted
+  lost-told = (every_run (config_of c) ks x s.made).holds.lost_counted
 
   tells : {r : Figures} → r ≡ figures w → (r ≡ figures_of x.stored.session.queue) × (r.packets_lost ≡ length x.book.lost)
   unfolding figures_of
@@ -223,8 +223,8 @@ module _ {c : ConfigWords} {ks : List Call} {w : SessionWords} {x : Run} (s : St
 pub every_run_in_words : EveryRunInWords
 every_run_in_words =
     record {
-      holds = λ c ks w x m. every_run.holds (config_of c) ks x (stands m).made;
-      steps = λ c ks w x k m. every_run.steps (config_of c) ks x k (stands m).made;
+      holds = λ c ks w x m. (every_run (config_of c) ks x (stands m).made).holds;
+      steps = λ c ks w x k m. (every_run (config_of c) ks x (stands m).made).steps k;
       same = λ m e. same-call _ (stands m) e;
       figures_told = λ m e. tells (stands m) e;
     }

@@ -6,8 +6,6 @@
 ghost use Rattle.std.specs.Prelude.{◌≡◌, []};
 ghost use Rattle.model.specs.Calls as Calls;
 ghost use Rattle.model.specs.Contract.{lent, left};
-ghost use Rattle.refusals.specs.Refusals.{refusal_of};
-ghost use Rattle.burst.specs.Burst.{written};
 ghost use Rattle.ffi_words.specs.Told as Told;
 ghost use Rattle.ffi.specs.Exported as Exported;
 ghost use Rattle.ffi.specs.Exported.{Gives, alone, opened_words};
@@ -35,6 +33,7 @@ pub mod settings;
 pub const VERSION: u64 = 3000;
 
 // A refused opening gives a session of zeros.
+// Stays: the header's parameters, here and below, which `ffi_c` hands on: a struct built there would only move its literal to that crate.
 #[tactic(auto, unfolding(crate::specs::Exported::opened_words, crate::specs::Exported::opened_by))]
 pub fn bizhgemu_open(
     config: ConfigWords,
@@ -72,10 +71,10 @@ pub fn bizhgemu_push(
     ensures { Gives Told.pushed (Calls.media now datagram.now) session (lent entries payloads gaps remembered) result (left entries payloads gaps remembered) [] }
 {
     let Some(read) = ffi_words::read(session) else {
-        return answers::push_refused(Refusal::Session, session);
+        return answers::media_told(Err(Refusal::Session), session);
     };
-    // Stays: `Held` in full, here and below. Of a slice lent to a function that puts it into a `Held`, the checker knows no more than its length
-    // when this function returns: a `held(..)` with the slices' ghost names in its contract was proved, its callers were not.
+    // Stays: `Held` in full, here and below. Of a slice lent to a function that puts it into a `Held`, the checker knows no more than its
+    // length when this function returns: a `held(..)` with the slices' ghost names in its contract was proved, its callers were not.
     let mut q = Held {
         session: read,
         entries,
@@ -84,7 +83,8 @@ pub fn bizhgemu_push(
         remembered,
     };
     let answer = push::push(&mut q, now, datagram);
-    answers::media_told(answer, session, q.session)
+    let words = answers::words_back(&answer, session, q.session);
+    answers::media_told(answer, words)
 }
 
 // Words that cannot be read stand for a session of zeros, which check 16 refuses.
@@ -95,17 +95,8 @@ fn session_in(words: SessionWords) -> Session
     ffi_words::read(words).unwrap_or_else(|| ffi_words::session_of(writing::no_session()))
 }
 
-// The number of a refusal, and how many answers were written.
-fn burst_done(done: Result<usize, Refusal>) -> (u64, usize)
-    ensures { (result.0 ≡ refusal_of done) × (result.1 ≡ written done) }
-{
-    match done {
-        Ok(written) => (0, written),
-        Err(e) => (e.number(), 0),
-    }
-}
-
 // 02, point 4: a burst of media datagrams. The words come back as they came where no datagram was accepted.
+// Stays: the header's parameters; the struct of session and storage is `Held`, and is built here.
 pub fn bizhgemu_push_burst(
     session: SessionWords,
     entries: &mut [u64],
@@ -127,11 +118,11 @@ pub fn bizhgemu_push_burst(
         remembered,
     };
     let done = burst::push_burst(&mut q, now, buffer, ends, numbers);
-    let (refusal, written) = burst_done(done);
-    let accepted = burst::any_accepted(numbers, written);
-    answers::burst_told(refusal, written, accepted, session, q.session)
+    let accepted = burst::any_accepted(numbers, done.unwrap_or(0));
+    answers::burst_told(done, accepted, session, q.session)
 }
 
+// Stays: the header's parameters, as above.
 pub fn bizhgemu_push_rtx(
     session: SessionWords,
     entries: &mut [u64],
@@ -144,7 +135,7 @@ pub fn bizhgemu_push_rtx(
     ensures { Gives Told.pushed (Calls.repair now datagram.now) session (lent entries payloads gaps remembered) result (left entries payloads gaps remembered) [] }
 {
     let Some(read) = ffi_words::read(session) else {
-        return answers::push_refused(Refusal::Session, session);
+        return answers::repair_told(Err(Refusal::Session), session);
     };
     let mut q = Held {
         session: read,
@@ -154,10 +145,11 @@ pub fn bizhgemu_push_rtx(
         remembered,
     };
     let answer = rtx::push_rtx(&mut q, now, datagram);
-    answers::repair_told(answer, session, q.session)
+    let words = answers::words_back(&answer, session, q.session);
+    answers::repair_told(answer, words)
 }
 
-// Stays: as above: each exported name has its call and its output.
+// Stays: each exported name has its call and its output, and the C interface wants each as a function.
 pub fn bizhgemu_poll(
     session: SessionWords,
     entries: &mut [u64],
@@ -170,7 +162,7 @@ pub fn bizhgemu_poll(
     ensures { Gives Told.polled (Calls.poll now out.old) session (lent entries payloads gaps remembered) result (left entries payloads gaps remembered) out.new }
 {
     let Some(read) = ffi_words::read(session) else {
-        return answers::poll_refused(Refusal::Session, session);
+        return answers::poll_told(Err(Refusal::Session), session);
     };
     let mut q = Held {
         session: read,
@@ -180,9 +172,11 @@ pub fn bizhgemu_poll(
         remembered,
     };
     let answer = poll::poll(&mut q, now, out);
-    answers::poll_told(answer, session, q.session)
+    let words = answers::words_back(&answer, session, q.session);
+    answers::poll_told(answer, words)
 }
 
+// Stays: the header's parameters, as above.
 pub fn bizhgemu_poll_nack(
     session: SessionWords,
     entries: &mut [u64],
@@ -195,7 +189,7 @@ pub fn bizhgemu_poll_nack(
     ensures { Gives Told.polled_nack (Calls.poll_nack now out.old) session (lent entries payloads gaps remembered) result (left entries payloads gaps remembered) out.new }
 {
     let Some(read) = ffi_words::read(session) else {
-        return answers::nack_refused(Refusal::Session, session);
+        return answers::nack_told(Err(Refusal::Session), session);
     };
     let mut q = Held {
         session: read,
@@ -205,9 +199,11 @@ pub fn bizhgemu_poll_nack(
         remembered,
     };
     let answer = nack::poll_nack(&mut q, now, out);
-    answers::nack_told(answer, session, q.session)
+    let words = answers::words_back(&answer, session, q.session);
+    answers::nack_told(answer, words)
 }
 
+// Stays: the header's parameters, as above.
 pub fn bizhgemu_nack_wire(
     session: SessionWords,
     entries: &mut [u64],
@@ -220,7 +216,7 @@ pub fn bizhgemu_nack_wire(
     ensures { Gives Told.polled_wire (Calls.nack_wire now out.old) session (lent entries payloads gaps remembered) result (left entries payloads gaps remembered) out.new }
 {
     let Some(read) = ffi_words::read(session) else {
-        return answers::wire_refused(Refusal::Session, session);
+        return answers::wire_told(Err(Refusal::Session), session);
     };
     let mut q = Held {
         session: read,
@@ -230,7 +226,8 @@ pub fn bizhgemu_nack_wire(
         remembered,
     };
     let answer = wire::nack_wire(&mut q, now, out);
-    answers::wire_told(answer, session, q.session)
+    let words = answers::words_back(&answer, session, q.session);
+    answers::wire_told(answer, words)
 }
 
 // The 16-bit numbers that the entries of a generic NACK name. No session is needed.
@@ -241,7 +238,7 @@ pub fn bizhgemu_read_nacks(entries: &[u8], out: &mut [u16]) -> ReadNumbers
     figures::numbers_told(read::read(entries, out))
 }
 
-// Stays: as above.
+// Stays: each exported name has its call, and the C interface wants each as a function.
 pub fn bizhgemu_timeout_receive(
     session: SessionWords,
     entries: &mut [u64],
@@ -266,6 +263,7 @@ pub fn bizhgemu_timeout_receive(
     figures::timeout_told(answer)
 }
 
+// Stays: the header's parameters, as above.
 pub fn bizhgemu_timeout_nack(
     session: SessionWords,
     entries: &mut [u64],
@@ -290,7 +288,7 @@ pub fn bizhgemu_timeout_nack(
     figures::timeout_told(answer)
 }
 
-// Stays: as above.
+// Stays: each exported name has its call, and the C interface wants each as a function.
 pub fn bizhgemu_rtx_stats(
     session: SessionWords,
     entries: &mut [u64],
@@ -314,6 +312,7 @@ pub fn bizhgemu_rtx_stats(
     figures::stats_told(answer)
 }
 
+// Stays: the header's parameters, as above.
 pub fn bizhgemu_highest_sequence_number_received(
     session: SessionWords,
     entries: &mut [u64],
@@ -337,7 +336,7 @@ pub fn bizhgemu_highest_sequence_number_received(
     figures::highest_told(answer)
 }
 
-// Stays: it refuses as well, so it is no conversion.
+// Stays: a `From` would have to stand in a crate of the two types, `model` or `ffi_words`, and neither imports the checks that this asks.
 #[tactic(auto, unfolding(crate::specs::Exported::queue_figures, crate::specs::Exported::figures_of))]
 fn figures_told(q: Queue) -> Figures
     ensures { result ≡ Exported.queue_figures q }

@@ -16,6 +16,8 @@ use ffi_words::figures::{Figures, Highest, Lengths, ReadNumbers, RtxStats, Timeo
 use ffi_words::{ConfigWords, SessionWords};
 use settings_words::{SettingsRead, SettingsWords, SettingsWritten};
 
+// Stays: the header's parameters, here and below: C lends four slices to each call, and a struct of them would be another interface
+// (docs/VERSIONS.md).
 #[unsafe(no_mangle)]
 pub extern "C" fn bizhgemu_open(
     config: ConfigWords,
@@ -29,6 +31,7 @@ pub extern "C" fn bizhgemu_open(
     ffi::bizhgemu_open(config, entries, payloads, gaps, remembered)
 }
 
+// Stays: the header's parameters: C gives session, storage and instant anew to each call.
 #[unsafe(no_mangle)]
 pub extern "C" fn bizhgemu_push(
     session: SessionWords,
@@ -44,6 +47,7 @@ pub extern "C" fn bizhgemu_push(
     ffi::bizhgemu_push(session, entries, payloads, gaps, remembered, now, datagram)
 }
 
+// Stays: the header's parameters: C gives session, storage and instant anew to each call.
 #[unsafe(no_mangle)]
 pub extern "C" fn bizhgemu_push_burst(
     session: SessionWords,
@@ -63,6 +67,7 @@ pub extern "C" fn bizhgemu_push_burst(
     )
 }
 
+// Stays: the header's parameters: C gives session, storage and instant anew to each call.
 #[unsafe(no_mangle)]
 pub extern "C" fn bizhgemu_push_rtx(
     session: SessionWords,
@@ -78,6 +83,7 @@ pub extern "C" fn bizhgemu_push_rtx(
     ffi::bizhgemu_push_rtx(session, entries, payloads, gaps, remembered, now, datagram)
 }
 
+// Stays: the header's parameters: C gives session, storage and instant anew to each call.
 #[unsafe(no_mangle)]
 pub extern "C" fn bizhgemu_poll(
     session: SessionWords,
@@ -93,6 +99,7 @@ pub extern "C" fn bizhgemu_poll(
     ffi::bizhgemu_poll(session, entries, payloads, gaps, remembered, now, out)
 }
 
+// Stays: the header's parameters: C gives session, storage and instant anew to each call.
 #[unsafe(no_mangle)]
 pub extern "C" fn bizhgemu_poll_nack(
     session: SessionWords,
@@ -108,6 +115,7 @@ pub extern "C" fn bizhgemu_poll_nack(
     ffi::bizhgemu_poll_nack(session, entries, payloads, gaps, remembered, now, out)
 }
 
+// Stays: the header's parameters: C gives session, storage and instant anew to each call.
 #[unsafe(no_mangle)]
 pub extern "C" fn bizhgemu_nack_wire(
     session: SessionWords,
@@ -130,6 +138,7 @@ pub extern "C" fn bizhgemu_read_nacks(entries: &[u8], out: &mut [u16]) -> ReadNu
     ffi::bizhgemu_read_nacks(entries, out)
 }
 
+// Stays: the header's parameters: C gives session, storage and instant anew to each call.
 #[unsafe(no_mangle)]
 pub extern "C" fn bizhgemu_timeout_receive(
     session: SessionWords,
@@ -144,6 +153,7 @@ pub extern "C" fn bizhgemu_timeout_receive(
     ffi::bizhgemu_timeout_receive(session, entries, payloads, gaps, remembered, now)
 }
 
+// Stays: the header's parameters: C gives session, storage and instant anew to each call.
 #[unsafe(no_mangle)]
 pub extern "C" fn bizhgemu_timeout_nack(
     session: SessionWords,
@@ -158,6 +168,7 @@ pub extern "C" fn bizhgemu_timeout_nack(
     ffi::bizhgemu_timeout_nack(session, entries, payloads, gaps, remembered, now)
 }
 
+// Stays: the header's parameters: C gives session and storage anew to each call.
 #[unsafe(no_mangle)]
 pub extern "C" fn bizhgemu_rtx_stats(
     session: SessionWords,
@@ -171,6 +182,7 @@ pub extern "C" fn bizhgemu_rtx_stats(
     ffi::bizhgemu_rtx_stats(session, entries, payloads, gaps, remembered)
 }
 
+// Stays: the header's parameters: C gives session and storage anew to each call.
 #[unsafe(no_mangle)]
 pub extern "C" fn bizhgemu_highest_sequence_number_received(
     session: SessionWords,

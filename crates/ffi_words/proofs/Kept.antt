@@ -11,17 +11,12 @@ use Rattle.std.specs.Prelude.{Option, None, Some}
 use Rattle.config.specs.declared.RtpInboundStreamSortedQueueMode.TheVariants.{Fixed, Dynamic}
 use Rattle.config.specs.declared.RtpInboundQueueMode.{RtpInboundQueueMode}
 use Rattle.config.specs.declared.RtpInboundQueueMode.TheVariants.{Passthrough, SortedQueue}
-use Rattle.config.specs.Mode.{mode_of, mode_number, dynamic_of}
+use Rattle.config.specs.Mode.{mode_number}
+use Rattle.config.proofs.Mode.{mode-back}
 use Rattle.model.specs.declared.Config.{Config}
 use Rattle.ffi_words.specs.Words.{config_readable, readable, config_of, flagged, queue_of, session_of, flag, config_words, last_words, returned_words, rtt_words, words_of, Kept}
 
 -- ---- each part
-
-mode-kept : (m : RtpInboundQueueMode) → mode_of (mode_number m) (dynamic_of m) ≡ m
-unfolding mode_of mode_number dynamic_of
-mode-kept Passthrough = refl
-mode-kept (SortedQueue Fixed) = refl
-mode-kept (SortedQueue (Dynamic d)) = refl
 
 flag-kept : (b : Bool) → eqb (flag b) 1 ≡ b
 unfolding flag
@@ -45,7 +40,7 @@ rtt_kept (Some e) = refl
 
 config-kept : (c : Config) → config_of (config_words c) ≡ c
 unfolding config_of config_words
-config-kept c = rw (mode-kept c.settings.mode, flag-kept c.senders.has_rtx)
+config-kept c = rw (mode-back c.settings.mode, flag-kept c.senders.has_rtx)
 
 -- ---- each flag
 

@@ -1,2 +1,3 @@
 -- Laws of the words.
 pub mod Kept
+pub mod Told

@@ -2,6 +2,8 @@
 use Rattle.std.specs.Prelude.{Bool, cond, List, [], ◌∷◌, ℕ, length, Option, None, Some, Result, Ok, Err}
 use Rattle.stats.specs.declared.RtpInboundRtxStats.{RtpInboundRtxStats}
 use Rattle.packet_loss.specs.Loss.{zero32}
+use Rattle.refusals.specs.declared.Refusal.{Refusal}
+use Rattle.refusals.specs.Refusals.{number}
 use Rattle.model.specs.declared.Session.{Session}
 use Rattle.model.specs.Push.{Fate, recovered, redundant, too_late}
 use Rattle.model.specs.Calls as Calls
@@ -105,6 +107,11 @@ stats_words refusal None =
     record { refusal = refusal; has_stats = 0; packets_received_in_time = 0; packets_received_too_late = 0; packets_received_redundant = 0; bytes_received = 0; has_rtt = 0; rtt = 0 }
 stats_words refusal (Some f) =
     record { refusal = refusal; has_stats = 1; packets_received_in_time = f.packets_received_in_time; packets_received_too_late = f.packets_received_too_late; packets_received_redundant = f.packets_received_redundant; bytes_received = f.bytes_received; has_rtt = has? f.rtt; rtt = value_of f.rtt }
+
+-- the number under which the code refused, if it did
+unfoldable pub refusal_told : {A : Type 0} → Result A Refusal → Option ℕ
+refusal_told (Ok x) = None
+refusal_told (Err e) = Some (number e)
 
 -- a refused call gives the words of the session back as they came
 unfoldable pub session_after : Option ℕ → SessionWords → Session → SessionWords

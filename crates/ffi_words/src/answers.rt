@@ -1,16 +1,16 @@
 // What the opening and the calls that change a session answer. `refusal` is 01's number, or 0; what is not told (refused, or its flag is
 // 0) is 0.
-#![tactic(auto, unfolding(crate::specs::Told::pushed, crate::specs::Told::polled, crate::specs::Told::polled_nack, crate::specs::Told::polled_wire, crate::specs::Told::session_after, crate::specs::Told::refusal_in, crate::specs::Told::number_in, crate::specs::Told::fate_number, session::specs::Place::fate, crate::specs::Told::packet_in, crate::specs::Told::opt_words, crate::specs::Told::packet_words, crate::specs::Words::flag, poll::specs::Answers::packet_of, crate::specs::Told::open_told, crate::specs::Told::burst_told))]
+#![tactic(auto, unfolding(crate::specs::Told::pushed, crate::specs::Told::polled, crate::specs::Told::polled_nack, crate::specs::Told::polled_wire, crate::specs::Told::session_after, crate::specs::Told::refusal_told, crate::specs::Told::refusal_in, crate::specs::Told::number_in, crate::specs::Told::fate_number, session::specs::Place::fate, crate::specs::Told::packet_in, crate::specs::Told::opt_words, crate::specs::Told::packet_words, crate::specs::Words::flag, poll::specs::Answers::packet_of, crate::specs::Told::open_told, crate::specs::Told::burst_told))]
 
 ghost use Rattle.std.specs.Prelude.{◌≡◌, [], ◌∷◌};
-ghost use Rattle.refusals.specs.Refusals.{number};
-ghost use Rattle.model.specs.Calls as Calls;
+ghost use Rattle.std.specs.Result.{result_unwrap_or};
+ghost use Rattle.refusals.specs.Refusals.{number, refusal_of};
 ghost use Rattle.model.specs.Did as Did;
 ghost use Rattle.queue.specs.Answers.{opening_answer};
 ghost use Rattle.push.specs.Answers.{media_answer, repair_answer};
 ghost use Rattle.poll.specs.Answers.{packet_of, poll_answer, nack_answer, wire_answer};
 ghost use Rattle.ffi_words.specs.Words.{words_of};
-ghost use Rattle.ffi_words.specs.Told.{opt_words, packet_words, back, pushed, polled, polled_nack, polled_wire, burst_told, open_told};
+ghost use Rattle.ffi_words.specs.Told.{refusal_told, session_after, opt_words, packet_words, pushed, polled, polled_nack, polled_wire, burst_told, open_told};
 
 use super::SessionWords;
 use model::Session;
@@ -94,6 +94,7 @@ pub struct PolledWire {
 }
 
 // A number that may be missing, as a flag and a value.
+// Stays: both go into fields of a struct that the C interface names; a struct of the two would be taken apart at once.
 pub fn opt_words(o: Option<u64>) -> (u64, u64)
     ensures { result ≡ opt_words o }
 {
@@ -106,7 +107,7 @@ pub fn no_packet() -> Packet
     Packet::default()
 }
 
-// Stays: the name says that these are words; `into` would not.
+// Stays: the definition is of a list, with `no_packet` for the empty one; `From` would give it through `from_gives`, one step further.
 pub fn packet_words(h: HandedOut) -> Packet
     ensures { result ≡ packet_words (packet_of h ∷ []) }
 {
@@ -124,7 +125,7 @@ pub fn packet_words(h: HandedOut) -> Packet
     }
 }
 
-// ---- what a call came to, with the words that the session was given in and the session that is left
+// ---- what a call came to, with the words of the session that go back
 
 pub fn open_refused(refusal: Refusal) -> Opened
     ensures { result ≡ open_told (Did.refused (number refusal)) }
@@ -147,158 +148,112 @@ pub fn open_told(opening: Result<Session, Refusal>) -> Opened
     }
 }
 
-pub fn push_refused(refusal: Refusal, given: SessionWords) -> Pushed
-    ensures { result ≡ pushed (Calls.refused (number refusal)) given }
+// The words that go back: those of the session that is left, or of a refused call those that came.
+pub fn words_back<T>(
+    answer: &Result<T, Refusal>,
+    given: SessionWords,
+    left: Session,
+) -> SessionWords
+    ensures { result ≡ session_after (refusal_told answer.now) given left }
 {
-    Pushed {
-        refusal: refusal.number(),
-        answer: 0,
-        session: given,
+    match answer {
+        Ok(_) => super::writing::words_of(left),
+        Err(_) => given,
     }
 }
 
-// Stays: each fills the struct of its exported call.
-fn push_done(answer: u64, left: Session) -> Pushed
-    ensures { result ≡ record { refusal = 0; answer = answer; session = words_of left } }
+// Stays: the numbers are the C interface's, and the list of a burst has 255 for the dropped packet, so `Media` has no numbers of its own.
+pub fn media_told(answer: Result<Media, Refusal>, session: SessionWords) -> Pushed
+    ensures { result ≡ pushed (media_answer answer) session }
 {
+    let (refusal, answer) = match answer {
+        Ok(Media::Queued) => (0, 0),
+        Ok(Media::Dropped) => (0, 1),
+        Err(e) => (e.number(), 0),
+    };
     Pushed {
-        refusal: 0,
+        refusal,
         answer,
-        session: super::writing::words_of(left),
+        session,
     }
 }
 
-pub fn media_told(answer: Result<Media, Refusal>, given: SessionWords, left: Session) -> Pushed
-    ensures { result ≡ back pushed (media_answer answer) given left }
+// Stays: the numbers are the C interface's; as discriminants they would stand in `session`, which knows no number of an answer.
+pub fn repair_told(answer: Result<Fate, Refusal>, session: SessionWords) -> Pushed
+    ensures { result ≡ pushed (repair_answer answer) session }
 {
-    match answer {
-        Ok(Media::Queued) => push_done(0, left),
-        Ok(Media::Dropped) => push_done(1, left),
-        Err(e) => push_refused(e, given),
+    let (refusal, answer) = match answer {
+        Ok(Fate::Recovered) => (0, 0),
+        Ok(Fate::Redundant) => (0, 1),
+        Ok(Fate::TooLate) => (0, 2),
+        Err(e) => (e.number(), 0),
+    };
+    Pushed {
+        refusal,
+        answer,
+        session,
     }
 }
 
-pub fn repair_told(answer: Result<Fate, Refusal>, given: SessionWords, left: Session) -> Pushed
-    ensures { result ≡ back pushed (repair_answer answer) given left }
+pub fn poll_told(answer: Result<Option<HandedOut>, Refusal>, session: SessionWords) -> Polled
+    ensures { result ≡ polled (poll_answer answer) session }
 {
-    match answer {
-        Ok(Fate::Recovered) => push_done(0, left),
-        Ok(Fate::Redundant) => push_done(1, left),
-        Ok(Fate::TooLate) => push_done(2, left),
-        Err(e) => push_refused(e, given),
-    }
-}
-
-pub fn poll_refused(refusal: Refusal, given: SessionWords) -> Polled
-    ensures { result ≡ polled (Calls.refused (number refusal)) given }
-{
+    let (refusal, has_packet, packet) = match answer {
+        Ok(None) => (0, 0, no_packet()),
+        Ok(Some(h)) => (0, 1, packet_words(h)),
+        Err(e) => (e.number(), 0, no_packet()),
+    };
     Polled {
-        refusal: refusal.number(),
-        has_packet: 0,
-        packet: no_packet(),
-        session: given,
-    }
-}
-
-fn poll_done(has_packet: u64, packet: Packet, left: Session) -> Polled
-    ensures { result ≡ record { refusal = 0; has_packet = has_packet; packet = packet; session = words_of left } }
-{
-    Polled {
-        refusal: 0,
+        refusal,
         has_packet,
         packet,
-        session: super::writing::words_of(left),
+        session,
     }
 }
 
-pub fn poll_told(
-    answer: Result<Option<HandedOut>, Refusal>,
-    given: SessionWords,
-    left: Session,
-) -> Polled
-    ensures { result ≡ back polled (poll_answer answer) given left }
+pub fn nack_told(answer: Result<Option<usize>, Refusal>, session: SessionWords) -> PolledNack
+    ensures { result ≡ polled_nack (nack_answer answer) session }
 {
-    match answer {
-        Ok(None) => poll_done(0, no_packet(), left),
-        Ok(Some(h)) => poll_done(1, packet_words(h), left),
-        Err(e) => poll_refused(e, given),
-    }
-}
-
-pub fn nack_refused(refusal: Refusal, given: SessionWords) -> PolledNack
-    ensures { result ≡ polled_nack (Calls.refused (number refusal)) given }
-{
+    let (refusal, count) = match answer {
+        Ok(None) => (0, 0),
+        Ok(Some(n)) => (0, n),
+        Err(e) => (e.number(), 0),
+    };
     PolledNack {
-        refusal: refusal.number(),
-        count: 0,
-        session: given,
-    }
-}
-
-fn nack_done(count: usize, left: Session) -> PolledNack
-    ensures { result ≡ record { refusal = 0; count = count; session = words_of left } }
-{
-    PolledNack {
-        refusal: 0,
+        refusal,
         count,
-        session: super::writing::words_of(left),
+        session,
     }
 }
 
-pub fn nack_told(
-    answer: Result<Option<usize>, Refusal>,
-    given: SessionWords,
-    left: Session,
-) -> PolledNack
-    ensures { result ≡ back polled_nack (nack_answer answer) given left }
+pub fn wire_told(answer: Result<usize, Refusal>, session: SessionWords) -> PolledWire
+    ensures { result ≡ polled_wire (wire_answer answer) session }
 {
-    match answer {
-        Ok(None) => nack_done(0, left),
-        Ok(Some(n)) => nack_done(n, left),
-        Err(e) => nack_refused(e, given),
-    }
-}
-
-pub fn wire_refused(refusal: Refusal, given: SessionWords) -> PolledWire
-    ensures { result ≡ polled_wire (Calls.refused (number refusal)) given }
-{
+    let (refusal, bytes) = match answer {
+        Ok(n) => (0, n),
+        Err(e) => (e.number(), 0),
+    };
     PolledWire {
-        refusal: refusal.number(),
-        bytes: 0,
-        session: given,
-    }
-}
-
-fn wire_done(bytes: usize, left: Session) -> PolledWire
-    ensures { result ≡ record { refusal = 0; bytes = bytes; session = words_of left } }
-{
-    PolledWire {
-        refusal: 0,
+        refusal,
         bytes,
-        session: super::writing::words_of(left),
-    }
-}
-
-pub fn wire_told(answer: Result<usize, Refusal>, given: SessionWords, left: Session) -> PolledWire
-    ensures { result ≡ back polled_wire (wire_answer answer) given left }
-{
-    match answer {
-        Ok(n) => wire_done(n, left),
-        Err(e) => wire_refused(e, given),
+        session,
     }
 }
 
 // The words as they came where no datagram was accepted.
-// Stays: the refusal goes out as the C interface's number.
+// Stays: whether one was accepted stands in the answers that were written, which the caller has; a closure would only wrap the `if`.
 pub fn burst_told(
-    refusal: u64,
-    answers: usize,
+    done: Result<usize, Refusal>,
     accepted: bool,
     given: SessionWords,
     left: Session,
 ) -> PushedBurst
-    ensures { result ≡ burst_told refusal answers accepted given left }
+    ensures { result ≡ burst_told (refusal_of done) (result_unwrap_or done 0) accepted given left }
 {
+    let (refusal, answers) = match done {
+        Ok(n) => (0, n),
+        Err(e) => (e.number(), 0),
+    };
     let session = if accepted {
         super::writing::words_of(left)
     } else {

@@ -87,8 +87,8 @@ fn readable(s: SessionWords) -> bool
     config_readable(s.config) & (s.has_last <= 1) & (s.has_returned <= 1) & (s.has_rtt <= 1)
 }
 
-// Stays: settings_words builds settings of the same numbers, here and in writing.rt, but each struct of C has fields of its own: to copy eleven
-// of them into the other struct is no shorter than to build the settings.
+// Stays: the opening's contract cites `config_of`, which `From` would give through `from_gives`, one step further. settings_words builds
+// the same settings, but to copy eleven numbers into its struct of C is no shorter than to build them.
 pub fn config_of(c: ConfigWords) -> Config
     ensures { result ≡ Words.config_of c }
 {
@@ -125,6 +125,8 @@ fn flagged<T: Drop>(flag: u64, value: T) -> Option<T>
     (flag != 0).then_some(value)
 }
 
+// Stays: `session_of` has four parts of one type of words. `From` would be four impls of that type, each with a `from_gives` that says what
+// the contract says here.
 fn last_of(s: SessionWords) -> Option<Received>
     ensures { result ≡ (Words.queue_of s).last }
 {
@@ -136,7 +138,7 @@ fn last_of(s: SessionWords) -> Option<Received>
     flagged(s.has_last, last)
 }
 
-// Stays: a part of `session_of`, whose contract names each part.
+// Stays: as `last_of`.
 fn rtx_of(s: SessionWords) -> RtxState
     ensures { result ≡ (Words.queue_of s).rtx }
 {
@@ -153,7 +155,7 @@ fn rtx_of(s: SessionWords) -> RtxState
     }
 }
 
-// Stays: a part of `session_of`.
+// Stays: as `last_of`.
 fn jitter_of(s: SessionWords) -> Jitter
     ensures { result ≡ (Words.queue_of s).jitter }
 {
@@ -162,7 +164,7 @@ fn jitter_of(s: SessionWords) -> Jitter
     Jitter { clock_rate, jitter }
 }
 
-// Stays: a part of `session_of`, and of the figures.
+// Stays: as `last_of`.
 fn queue_of(s: SessionWords) -> Queue
     ensures { result ≡ Words.queue_of s }
 {
@@ -185,7 +187,8 @@ fn queue_of(s: SessionWords) -> Queue
     }
 }
 
-// Stays: it is asked only of words that are readable, which `TryFrom` could not leave out.
+// Stays: contracts of `read` and of `ffi` cite `session_of`, which `From` would give through `from_gives`, one step further. No words are
+// refused here, so it is no `TryFrom`.
 pub fn session_of(s: SessionWords) -> Session
     ensures { result ≡ Words.session_of s }
 {

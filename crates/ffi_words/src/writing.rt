@@ -1,16 +1,17 @@
 // A session and its settings written as words.
-#![tactic(auto, unfolding(crate::specs::Words::flag, crate::specs::Words::config_words, crate::specs::Words::last_words, crate::specs::Words::returned_words, crate::specs::Words::rtt_words, crate::specs::Words::words_of, crate::specs::Words::no_config, crate::specs::Words::no_session))]
+#![tactic(auto, unfolding(crate::specs::Words::flag, crate::specs::Words::config_words, crate::specs::Words::last_words, crate::specs::Words::returned_words, crate::specs::Words::rtt_words, crate::specs::Told::opt_words, crate::specs::Words::words_of, crate::specs::Words::no_config, crate::specs::Words::no_session))]
 
 ghost use Rattle.std.specs.Prelude.{◌≡◌};
 ghost use Rattle.ffi_words.specs.Words as Words;
 
+use super::answers::opt_words;
 use super::{ConfigWords, SessionWords};
 use model::{Config, Received, Session};
 use rtp::ExtendedSequenceNumber;
 use rtx_state::RtxRtt;
 use std::num::{f32_to_bits_with_nan, f64_to_bits_with_nan};
 
-// Stays: a part of `words_of`.
+// Stays: a part of `words_of`: `From` would be an impl whose `from_gives` says what the contract says here, for one call.
 fn config_words(c: Config) -> ConfigWords
     ensures { result ≡ Words.config_words c }
 {
@@ -38,6 +39,8 @@ fn config_words(c: Config) -> ConfigWords
     }
 }
 
+// Each a flag and what stands beside it.
+// Stays: the words go into fields of the struct that the C interface names; a struct of them would be taken apart at once.
 fn last_words(last: Option<Received>) -> (u64, u64, u64, u64)
     ensures { result ≡ Words.last_words last }
 {
@@ -49,7 +52,7 @@ fn last_words(last: Option<Received>) -> (u64, u64, u64, u64)
 fn returned_words(returned: Option<ExtendedSequenceNumber>) -> (u64, u64)
     ensures { result ≡ Words.returned_words returned }
 {
-    returned.map_or((0, 0), |n| (1, n.0))
+    opt_words(returned.map(|n| n.0))
 }
 
 fn rtt_words(rtt: Option<RtxRtt>) -> (u64, u64, u64)
@@ -58,7 +61,7 @@ fn rtt_words(rtt: Option<RtxRtt>) -> (u64, u64, u64)
     rtt.map_or((0, 0, 0), |e| (1, e.srtt, e.variation))
 }
 
-// Stays: the name says that these are words; `into` would not.
+// Stays: the contracts of answers.rt and of `ffi` cite `words_of`, which `From` would give through `from_gives`, one step further.
 pub fn words_of(s: Session) -> SessionWords
     ensures { result ≡ Words.words_of s }
 {

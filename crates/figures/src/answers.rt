@@ -1,11 +1,10 @@
 // What the functions answer that are not given a line's numbers as they are; none where they do not take them.
-ghost use Rattle.std.specs.Prelude.{◌≡◌, ◌≤◌, true};
-ghost use Rattle.durations.specs.Seconds.{largest};
-ghost use Rattle.config.specs.Valid.{longest};
+ghost use Rattle.std.specs.Prelude.{◌≤◌, IfSome};
 
 use crate::line::Numbers;
 use config::{LONGEST, NackTimings, RtpInboundQueueMode, Settings};
 use durations::LARGEST;
+use handout::SortedQueue;
 use jitter::Jitter;
 use packet_loss::PacketLoss;
 use rtp::ExtendedRtpTimestamp;
@@ -78,11 +77,7 @@ pub(crate) fn timings(numbers: Numbers) -> Option<NackTimings> {
         default_nack_resend_delay,
         max_nack_attempts: 3,
     };
-    let rtt = if has_estimate == 1 {
-        Some(RtxRtt { srtt, variation })
-    } else {
-        None
-    };
+    let rtt = (has_estimate == 1).then_some(RtxRtt { srtt, variation });
     rtx_state::opt_in_range(rtt).then(|| settings.nack_timings(rtt))
 }
 
@@ -110,42 +105,39 @@ pub(crate) fn stats(numbers: Numbers) -> RtpInboundRtxStats {
     .stats()
 }
 
-// Whether the five are what a session that check 16 passed can hold.
-fn is_held(last: u64, timestamp: u64, clock_rate: u64, delay: u64, now: u64) -> bool
-    ensures { result ≡ true → (last ≤ largest) × (timestamp ≤ largest) × (1 ≤ clock_rate) × (clock_rate ≤ 1000000) × (delay ≤ longest) × (now ≤ largest) }
+// A sorted queue with these numbers, where a session that check 16 passed can hold them.
+fn sorted_queue(last: u64, timestamp: u64, clock_rate: u64, delay: u64) -> Option<SortedQueue>
+    ensures { IfSome result (λ q. (1 ≤ q.clock_rate) × (q.clock_rate ≤ 1000000)) }
 {
-    last <= LARGEST
+    let in_range = last <= LARGEST
         && timestamp <= LARGEST
         && (1..=1000000).contains(&clock_rate)
-        && delay <= LONGEST
-        && now <= LARGEST
+        && delay <= LONGEST;
+    if !in_range {
+        return None;
+    }
+    Some(SortedQueue {
+        last_instant: last,
+        last_timestamp: ExtendedRtpTimestamp(timestamp),
+        clock_rate: clock_rate as u32,
+        delay,
+    })
 }
 
 pub(crate) fn limit(numbers: Numbers) -> Option<Option<ExtendedRtpTimestamp>> {
     let [last, timestamp, clock_rate, delay, now, _] = numbers;
-    if !is_held(last, timestamp, clock_rate, delay, now) {
+    if LARGEST < now {
         return None;
     }
-    Some(handout::max_timestamp(
-        last,
-        ExtendedRtpTimestamp(timestamp),
-        clock_rate as u32,
-        delay,
-        now,
-    ))
+    let queue = sorted_queue(last, timestamp, clock_rate, delay)?;
+    Some(queue.max_timestamp(now))
 }
 
 pub(crate) fn timeout(numbers: Numbers) -> Option<u64> {
     let [last, timestamp, earliest, clock_rate, delay, now] = numbers;
-    if LARGEST < earliest || !is_held(last, timestamp, clock_rate, delay, now) {
+    if LARGEST < earliest || LARGEST < now {
         return None;
     }
-    Some(handout::timeout_receive(
-        last,
-        ExtendedRtpTimestamp(timestamp),
-        ExtendedRtpTimestamp(earliest),
-        clock_rate as u32,
-        delay,
-        now,
-    ))
+    let queue = sorted_queue(last, timestamp, clock_rate, delay)?;
+    Some(queue.timeout_receive(ExtendedRtpTimestamp(earliest), now))
 }

@@ -28,7 +28,6 @@ use std::num::f64_from_bits_with_nan;
 // What a run reads at most.
 const LINES: u64 = 10000000;
 
-// Stays: one arm to a letter of the input.
 fn answer<W: Write>(line: &Line, out: &mut W) -> io::Result<()> {
     let numbers = line::numbers(line);
     let [a, b, c, ..] = numbers;
@@ -36,7 +35,7 @@ fn answer<W: Write>(line: &Line, out: &mut W) -> io::Result<()> {
         srtt: a,
         variation: b,
     };
-    // Stays: one arm to a letter of the input.
+    // Stays: the functions take and answer different types; a table would need a closure around each.
     match line[0] {
         b'a' => durations::as_secs_f64(a).write(out)?,
         b's' => answers::signed(a == 1, b).write(out)?,

@@ -11,6 +11,7 @@ use lib.IntN.{pos, neg_ℤ}
 use lib.Pow.{pow_pos, pow-add, pow_mono, shl_lt, shl_exact}
 use lib.Ieee.{Float, nan, inf, fin, binary64, to_bits, fits, is_nan, to_signed, up, down}
 use lib.Ieee.Bits.{to_bits-lt}
+use lib.Ieee.Nearest.{div_same}
 use lib.Ieee.Scale.{finite}
 use lib.Ieee.Positive.{num, den, den_pos}
 use mir.ValLaws.{to_z-of_z}
@@ -29,10 +30,6 @@ top-is b h = by_test (leb (2 ^ 63) b) refl
     by_test : (t : Bool) → leb (2 ^ 63) b ≡ t → eqb (b / 2 ^ 63) 1 ≡ t
     by_test true e = let l : 2 ^ 63 ≤ b = leb-true (2 ^ 63) b e in eq-eqb (b / 2 ^ 63) 1 (omega arith)
     by_test false e = let l : b < 2 ^ 63 = leb-false (2 ^ 63) b e in ne_eqb (b / 2 ^ 63) 1 (λ z. omega arith)
-
--- equal fractions have equal whole parts
-same_whole : (a b c d : ℕ) → 0 < b → 0 < d → a * d ≡ c * b → a / b ≡ c / d
-same_whole a b c d B D e = sym (mul-div-mul_right a b D) ∙ ap (λ (n : ℕ). n / (b * d)) e ∙ ap (λ (n : ℕ). c * b / n) (mul_comm b d) ∙ mul-div-mul_right c d B
 
 -- the sign and the whole part of the size are the cast, where the size is below 2 ^ 52
 cast_is : (x : Float) (n : ℕ) → T (finite x) → num x / den x ≡ n → n < 2 ^ 52 → to_signed 63 x ≡ with_sign (sign x) n
@@ -61,7 +58,7 @@ module _ (x : Float) (F : fits binary64 x ≡ true) (f : T (finite x)) (l : num 
   v = size_pattern binary64 x (subst T (sym F) tt) f
 
   in_units : num x / den x ≡ q * 2 ^ (e - 1) / 2 ^ 1074
-  in_units = same_whole (num x) (den x) (q * 2 ^ (e - 1)) (2 ^ 1074) (den_pos x) (pow_pos 1074) v
+  in_units = div_same (num x) (den x) (q * 2 ^ (e - 1)) (2 ^ 1074) (den_pos x) (pow_pos 1074) v
 
   digits_lt : frac binary64 b < 2 ^ 52
   digits_lt = mod-lt b (pow_pos 52)

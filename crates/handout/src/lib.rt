@@ -21,38 +21,92 @@ const SIGN: u64 = 9223372036854775808;
 
 const LEADING_DIGIT: u64 = 4503599627370496;
 
-// The limit: packets of at most this timestamp are handed out at `now`; where there is none, nothing is.
-#[tactic(auto, using(crate::proofs::Signed::passed), unfolding(crate::specs::Limit::max_timestamp))]
-pub fn max_timestamp(
-    last_instant: u64,
-    last_timestamp: ExtendedRtpTimestamp,
-    clock_rate: u32,
-    delay: u64,
-    now: u64,
-) -> Option<ExtendedRtpTimestamp>
-    requires { (last_instant ≤ largest) × (last_timestamp.0 ≤ largest) × (clock_rate ≤ 1000000) × (delay ≤ longest) × (now ≤ largest) }
-    ensures { timestamp_of result ≡ max_timestamp last_instant last_timestamp.0 clock_rate delay now }
-{
-    let pop_earliest = (now as i64) - (delay as i64);
-    map_instant_to_rtp_timestamp(last_instant, last_timestamp, clock_rate, pop_earliest)
+// A sorted queue as hand-out sees it: the packet with the highest number, the clock's ticks in a second, and how long a packet is kept.
+#[derive(Clone, Copy)]
+pub struct SortedQueue {
+    pub last_instant: u64,
+    pub last_timestamp: ExtendedRtpTimestamp,
+    pub clock_rate: u32,
+    pub delay: u64,
+    ghost instant_in_range: { last_instant ≤ largest },
+    ghost timestamp_in_range: { last_timestamp.0 ≤ largest },
+    ghost delay_in_range: { delay ≤ longest },
 }
 
-// The timestamp that stands at `instant`, which may be below 0; none where it would be negative.
-#[tactic(auto, using(crate::proofs::Signed::since), unfolding(crate::specs::Limit::map_instant_to_rtp_timestamp))]
-fn map_instant_to_rtp_timestamp(
-    reference_instant: u64,
-    reference_timestamp: ExtendedRtpTimestamp,
-    clock_rate: u32,
-    instant: i64,
-) -> Option<ExtendedRtpTimestamp>
-    requires { (reference_instant ≤ largest) × (reference_timestamp.0 ≤ largest) × (clock_rate ≤ 1000000) × (mag instant < 2 ^ 53) }
-    ensures { timestamp_of result ≡ map_instant_to_rtp_timestamp reference_instant reference_timestamp.0 clock_rate instant }
-{
-    let delta = instant - (reference_instant as i64);
-    add_timesteps(
-        reference_timestamp,
-        delta_in_rtp_timesteps(delta, clock_rate),
-    )
+impl SortedQueue {
+    // The limit: packets of at most this timestamp are handed out at `now`; where there is none, nothing is.
+    // Stays: `now` is of one call and any u64 until the clock's check; a type with its bound would be built for each call.
+    #[tactic(auto, using(crate::proofs::Signed::passed), unfolding(crate::specs::Limit::max_timestamp))]
+    pub fn max_timestamp(self, now: u64) -> Option<ExtendedRtpTimestamp>
+        requires { (self.clock_rate ≤ 1000000) × (now ≤ largest) }
+        ensures { timestamp_of result ≡ max_timestamp self.last_instant self.last_timestamp.0 self.clock_rate self.delay now }
+    {
+        let pop_earliest = (now as i64) - (self.delay as i64);
+        self.map_instant_to_rtp_timestamp(pop_earliest)
+    }
+
+    // The timestamp that stands at `instant`, which may be below 0; none where it would be negative.
+    #[tactic(auto, using(crate::proofs::Signed::since), unfolding(crate::specs::Limit::map_instant_to_rtp_timestamp))]
+    fn map_instant_to_rtp_timestamp(self, instant: i64) -> Option<ExtendedRtpTimestamp>
+        requires { (self.clock_rate ≤ 1000000) × (mag instant < 2 ^ 53) }
+        ensures { timestamp_of result ≡ map_instant_to_rtp_timestamp self.last_instant self.last_timestamp.0 self.clock_rate instant }
+    {
+        let delta = instant - (self.last_instant as i64);
+        self.add_timesteps(delta_in_rtp_timesteps(delta, self.clock_rate))
+    }
+
+    // The last timestamp and the steps together; none below 0.
+    #[tactic(auto, using(crate::proofs::Signed::added), unfolding(rtp::specs::Opt::timestamp_of))]
+    fn add_timesteps(self, steps: i64) -> Option<ExtendedRtpTimestamp>
+        requires { mag steps < 2 ^ 62 }
+        ensures { timestamp_of result ≡ as_timestamp (pos self.last_timestamp.0 +ℤ steps) }
+    {
+        let sum = (self.last_timestamp.0 as i64) + steps;
+        if sum < 0 {
+            return None;
+        }
+        let limit = sum as u64;
+        Some(ExtendedRtpTimestamp(limit))
+    }
+
+    // Nanoseconds until the front packet, whose timestamp 000 takes for the earliest, is due.
+    // Stays: `now` is of one call, and the front packet's timestamp from lent words; a type with their bound would be built each time.
+    #[tactic(auto, using(durations::proofs::Bound::nanos_are, durations::proofs::Bound::refused_past, crate::proofs::Behind::behind_nonneg), unfolding(crate::specs::Timeout::timeout_receive, crate::specs::Timeout::remaining_of))]
+    pub fn timeout_receive(self, earliest_timestamp: ExtendedRtpTimestamp, now: u64) -> u64
+        requires { (earliest_timestamp.0 ≤ largest) × (1 ≤ self.clock_rate) × (now ≤ largest) }
+        ensures { result ≡ timeout_receive self.last_instant self.last_timestamp.0 earliest_timestamp.0 self.clock_rate self.delay now }
+    {
+        self.delta(earliest_timestamp)
+            .map_or(0, |ns| self.remaining(ns, now))
+    }
+
+    // How long before the last packet the front one was sent.
+    // Stays: the front packet's timestamp comes from lent words, whose type cannot hold the bound.
+    #[tactic(auto, using(float_laws::proofs::Upto::counted), unfolding(crate::specs::Timeout::behind))]
+    fn delta(self, earliest_timestamp: ExtendedRtpTimestamp) -> Option<u64>
+        requires { earliest_timestamp.0 ≤ largest }
+        ensures { result ≡ from_secs_f64 (behind self.last_timestamp.0 earliest_timestamp.0 self.clock_rate) }
+    {
+        let delta = (self.last_timestamp.0 as f64) - (earliest_timestamp.0 as f64);
+        // Stays: `max` of the library leaves open which of two zeros it answers.
+        let max = if delta > 0.0 { delta } else { 0.0 };
+        durations::from_secs_f64(max / (self.clock_rate as f64))
+    }
+
+    // What is left at `now` until delta before the last instant, plus the delay.
+    // Stays: `now` is of one call, as at `max_timestamp`.
+    #[tactic(auto, unfolding(crate::specs::Timeout::remaining_of))]
+    fn remaining(self, delta: u64, now: u64) -> u64
+        requires { now ≤ largest }
+        ensures { result ≡ remaining_of self.last_instant delta self.delay now }
+    {
+        if delta > LONGEST_DELTA {
+            return 0;
+        }
+        let due = self.last_instant + self.delay;
+        let passed = delta + now;
+        due.saturating_sub(passed)
+    }
 }
 
 // A signed number of nanoseconds in the clock's units, cut toward zero.
@@ -97,66 +151,4 @@ fn with_sign(negative: bool, whole: u64) -> i64
 {
     let size = whole as i64;
     if negative { 0 - size } else { size }
-}
-
-#[tactic(auto, using(crate::proofs::Signed::added), unfolding(rtp::specs::Opt::timestamp_of))]
-fn add_timesteps(timestamp: ExtendedRtpTimestamp, steps: i64) -> Option<ExtendedRtpTimestamp>
-    requires { (timestamp.0 ≤ largest) × (mag steps < 2 ^ 62) }
-    ensures { timestamp_of result ≡ as_timestamp (pos timestamp.0 +ℤ steps) }
-{
-    let sum = (timestamp.0 as i64) + steps;
-    if sum < 0 {
-        return None;
-    }
-    let limit = sum as u64;
-    Some(ExtendedRtpTimestamp(limit))
-}
-
-// Nanoseconds until the front packet, whose timestamp 000 takes for the earliest, is due.
-#[tactic(auto, using(durations::proofs::Bound::nanos_are, durations::proofs::Bound::refused_past, crate::proofs::Behind::behind_nonneg), unfolding(crate::specs::Timeout::timeout_receive, crate::specs::Timeout::remaining_of))]
-pub fn timeout_receive(
-    last_instant: u64,
-    last_timestamp: ExtendedRtpTimestamp,
-    earliest_timestamp: ExtendedRtpTimestamp,
-    clock_rate: u32,
-    delay: u64,
-    now: u64,
-) -> u64
-    requires { (last_instant ≤ largest) × (last_timestamp.0 ≤ largest) × (earliest_timestamp.0 ≤ largest) × (1 ≤ clock_rate) × (delay ≤ longest) × (now ≤ largest) }
-    ensures { result ≡ timeout_receive last_instant last_timestamp.0 earliest_timestamp.0 clock_rate delay now }
-{
-    match delta(last_timestamp, earliest_timestamp, clock_rate) {
-        Some(ns) => remaining(last_instant, ns, delay, now),
-        None => 0,
-    }
-}
-
-// How long before the last packet the front one was sent.
-#[tactic(auto, using(float_laws::proofs::Upto::counted), unfolding(crate::specs::Timeout::behind))]
-fn delta(
-    last_timestamp: ExtendedRtpTimestamp,
-    earliest_timestamp: ExtendedRtpTimestamp,
-    clock_rate: u32,
-) -> Option<u64>
-    requires { (last_timestamp.0 ≤ largest) × (earliest_timestamp.0 ≤ largest) }
-    ensures { result ≡ from_secs_f64 (behind last_timestamp.0 earliest_timestamp.0 clock_rate) }
-{
-    let delta = (last_timestamp.0 as f64) - (earliest_timestamp.0 as f64);
-    // Stays: `max` of the library leaves open which of two zeros it answers.
-    let max = if delta > 0.0 { delta } else { 0.0 };
-    durations::from_secs_f64(max / (clock_rate as f64))
-}
-
-// What is left at `now` until delta before the last instant, plus the delay.
-#[tactic(auto, unfolding(crate::specs::Timeout::remaining_of))]
-fn remaining(last_instant: u64, delta: u64, delay: u64, now: u64) -> u64
-    requires { (last_instant ≤ largest) × (delay ≤ longest) × (now ≤ largest) }
-    ensures { result ≡ remaining_of last_instant delta delay now }
-{
-    if delta > LONGEST_DELTA {
-        return 0;
-    }
-    let due = last_instant + delay;
-    let passed = delta + now;
-    due.saturating_sub(passed)
 }

@@ -94,21 +94,20 @@ length-noted s₀ n gaps lost skip i =
     let k = passed gaps lost i in
     length-append (remembered_of s₀ n) (map remember (drop skip k)) ∙ omega (arith, length-remembered_of s₀ n, length-map (drop skip k) remember, length-drop skip k)
 
-pub record Noting (s₀ s : List ℕ) (n : ℕ) (gaps : List ℕ) (lost skip i left count : ℕ) : Type 0 where
-  pub skips : left ≡ skip - length (passed gaps lost i)
-  pub counts : count ≡ n + (length (passed gaps lost i) - skip)
+pub record Noting (s₀ s : List ℕ) (n : ℕ) (gaps : List ℕ) (lost skip i seen : ℕ) : Type 0 where
+  pub counts : seen ≡ length (passed gaps lost i)
   pub room : remembered_words * (n + (length (keep once (gaps_of gaps lost)) - skip)) ≤ length s₀
   pub same : length s ≡ length s₀
   pub held : s ≡ laid remembered_words_of (length s₀) (noted s₀ n gaps lost skip i)
 
 pub noting_none : (s₀ : List ℕ) (n : ℕ) (gaps : List ℕ) (lost skip : ℕ) → RememberedIn s₀ n → remembered_words * (n + (length (keep once (gaps_of gaps lost)) - skip)) ≤ length s₀
-    → Noting s₀ s₀ n gaps lost skip 0 skip n
+    → Noting s₀ s₀ n gaps lost skip 0 0
 unfolding noted passed keep
 noting_none s₀ n gaps lost skip k r =
     let e : drop skip (keep once []) ≡ [] = drop-nil skip in
-    record { skips = omega arith; counts = omega arith; room = r; same = refl; held = rw (e, append-nil) k.held }
+    record { counts = refl; room = r; same = refl; held = rw (e, append-nil) k.held }
 
-module _ {s₀ s : List ℕ} {n : ℕ} {gaps : List ℕ} {lost skip i left count : ℕ} (c : Noting s₀ s n gaps lost skip i left count) (h : i < lost) (g : Gap)
+module _ {s₀ s : List ℕ} {n : ℕ} {gaps : List ℕ} {lost skip i seen : ℕ} (c : Noting s₀ s n gaps lost skip i seen) (h : i < lost) (g : Gap)
     (e : g ≡ gap_of_words (take gap_words (drop (gap_words * i) gaps))) where
   k : List Gap
   k = passed gaps lost i
@@ -118,35 +117,34 @@ module _ {s₀ s : List ℕ} {n : ℕ} {gaps : List ℕ} {lost skip i left count
   unfolding noted
   again j f = ap (λ (l : List Gap). remembered_of s₀ n ++ map remember l) (sym f)
 
-  pub noting_pass : (g.nacks ≡ 1 → ⊥) → Noting s₀ s n gaps lost skip (i + 1) left count
+  pub noting_pass : (g.nacks ≡ 1 → ⊥) → Noting s₀ s n gaps lost skip (i + 1) seen
   noting_pass o =
       let f : passed gaps lost (i + 1) ≡ passed gaps lost i = not-once gaps lost i g e h o in
-      let v : length (passed gaps lost (i + 1)) ≡ length (passed gaps lost i) = ap length f in
-      record { skips = omega (arith, c.skips); counts = omega (arith, c.counts); room = c.room; same = c.same; held = c.held ∙ ap (laid remembered_words_of (length s₀)) (again (i + 1) (ap (drop skip) f)) }
+      record { counts = c.counts ∙ sym (ap length f); room = c.room; same = c.same; held = c.held ∙ ap (laid remembered_words_of (length s₀)) (again (i + 1) (ap (drop skip) f)) }
 
   module _ (o : g.nacks ≡ 1) where
-    pub noting_skip : 0 < left → Noting s₀ s n gaps lost skip (i + 1) (left - 1) count
+    counted : seen + 1 ≡ length (passed gaps lost (i + 1))
+    counted = omega (arith, c.counts, count_more gaps lost i g e h o)
+
+    -- no more of them than fit a word
+    pub noting_few : seen < lost
+    noting_few = omega (arith, c.counts, within gaps lost i g e h o, count_few gaps lost)
+
+    pub noting_skip : seen < skip → Noting s₀ s n gaps lost skip (i + 1) (seen + 1)
     unfolding k
     noting_skip z =
-        let short : length k < skip = omega (arith, c.skips) in
-        let a : drop skip (passed gaps lost (i + 1)) ≡ [] = drop_of_length-le (passed gaps lost (i + 1)) {i = skip} (omega (arith, count_more gaps lost i g e h o)) in
-        let b : drop skip k ≡ [] = drop_of_length-le k {i = skip} (omega arith) in
-        record {
-          skips = omega (arith, c.skips, count_more gaps lost i g e h o);
-          counts = omega (arith, c.counts, count_more gaps lost i g e h o);
-          room = c.room;
-          same = c.same;
-          held = c.held ∙ ap (laid remembered_words_of (length s₀)) (again (i + 1) (a ∙ sym b));
-        }
+        let a : drop skip (passed gaps lost (i + 1)) ≡ [] = drop_of_length-le (passed gaps lost (i + 1)) {i = skip} (omega (arith, counted)) in
+        let b : drop skip k ≡ [] = drop_of_length-le k {i = skip} (omega (arith, c.counts)) in
+        record { counts = counted; room = c.room; same = c.same; held = c.held ∙ ap (laid remembered_words_of (length s₀)) (again (i + 1) (a ∙ sym b)) }
 
-    module _ (z : left ≤ 0) where
+    module _ (z : skip ≤ seen) where
       enough : skip ≤ length k
       unfolding k
-      enough = omega (arith, c.skips)
+      enough = omega (arith, c.counts)
 
-      pub noting_room : remembered_words * count + remembered_words ≤ length s
+      pub noting_room : remembered_words * (n + (seen - skip)) + remembered_words ≤ length s
       unfolding k
-      noting_room = omega (arith, c.room, c.same, c.counts, within gaps lost i g e h o, enough)
+      noting_room = omega (arith, c.room, c.same, c.counts, within gaps lost i g e h o)
 
       pushed : noted s₀ n gaps lost skip i ++ (remember g ∷ []) ≡ noted s₀ n gaps lost skip (i + 1)
       unfolding noted k
@@ -156,27 +154,21 @@ module _ {s₀ s : List ℕ} {n : ℕ} {gaps : List ℕ} {lost skip i left count
           ∙ ap (λ (l : List Remembered). remembered_of s₀ n ++ l) (sym (map-append remember m (g ∷ [])))
           ∙ ap (λ (l : List Gap). remembered_of s₀ n ++ map remember l) (sym (ap (drop skip) (more gaps lost i g e h o) ∙ drop-append-le skip k (g ∷ []) enough))
 
-      pub noting_push : (u : List ℕ) → u ≡ written (remembered_words * count) (remembered_words_of (remember g)) s → Noting s₀ u n gaps lost skip (i + 1) left (count + 1)
+      pub noting_push : (u : List ℕ) → u ≡ written (remembered_words * (n + (seen - skip))) (remembered_words_of (remember g)) s → Noting s₀ u n gaps lost skip (i + 1) (seen + 1)
       unfolding k
       noting_push u w =
           let xs = noted s₀ n gaps lost skip i in
           let ys = noted s₀ n gaps lost skip (i + 1) in
-          let lx : length xs ≡ count = length-noted s₀ n gaps lost skip i ∙ sym c.counts in
-          let ly : length ys ≡ count + 1 = length-noted s₀ n gaps lost skip (i + 1) ∙ omega (arith, count_more gaps lost i g e h o, c.counts, enough) in
-          let fit : remembered_words * count + remembered_words ≤ length s₀ = omega (arith, noting_room, c.same) in
+          let lx : length xs ≡ n + (seen - skip) = length-noted s₀ n gaps lost skip i ∙ omega (arith, c.counts) in
+          let ly : length ys ≡ n + (seen - skip) + 1 = length-noted s₀ n gaps lost skip (i + 1) ∙ omega (arith, counted, z) in
+          let fit : remembered_words * (n + (seen - skip)) + remembered_words ≤ length s₀ = omega (arith, noting_room, c.same) in
           let held : u ≡ laid remembered_words_of (length s₀) ys =
           w
           ∙ holds_pushed (remembered-held c.held lx (omega arith)) (remember g)
           ∙ ap (laid remembered_words_of (length s₀)) pushed in
-          record {
-            skips = omega (arith, c.skips, count_more gaps lost i g e h o, enough);
-            counts = omega (arith, c.counts, count_more gaps lost i g e h o, enough);
-            room = c.room;
-            same = laid-length (length s₀) (count + 1) ys u held ly (omega arith);
-            held = held;
-          }
+          record { counts = counted; room = c.room; same = laid-length (length s₀) (n + (seen - skip) + 1) ys u held ly (omega arith); held = held }
 
-pub noting_all : {s₀ s : List ℕ} {n : ℕ} {gaps : List ℕ} {lost skip i left count : ℕ} → Noting s₀ s n gaps lost skip i left count → lost ≤ i
+pub noting_all : {s₀ s : List ℕ} {n : ℕ} {gaps : List ℕ} {lost skip i seen : ℕ} → Noting s₀ s n gaps lost skip i seen → lost ≤ i
     → s ≡ laid remembered_words_of (length s₀) (remembered_of s₀ n ++ map remember (drop skip (keep once (gaps_of gaps lost))))
 unfolding noted passed
 noting_all {s₀} {n = n} {gaps} {lost} {skip} {i} c h =

@@ -1,14 +1,15 @@
 -- One bit of payload type or sender leaves a datagram whose checks before 6 pass, and a pair that is one bit away from the session's own. So a
 -- sender that is not one bit away is not its own either: 6 or 7 catches it.
 use mathlib.Core.Path.{◌≡◌, refl, sym, ◌∙◌}
-use mathlib.Core.Logic.{◌⊎◌, inl, inr, ⊎_elim}
-use mathlib.Core.Bool.{Bool, true, false, not, ◌&&◌, ◌||◌}
+use mathlib.Core.Logic.{⊎_elim}
+use mathlib.Core.Bool.{Bool, true, false, not, ◌&&◌}
 use mathlib.Core.List.{List}
 use Prim.Native.Nat.{ℕ, ◌+◌, ◌%◌, ◌≤◌, ◌<◌}
 use native.Mathlib.Omega.{arith}
 use lib.Dec.{eqb, leb, ltb}
 use lib.ListN.{length}
 use borrow.Author.Tests.{eqb-true, eqb-false, leb-true, ltb-true, ltb-false, not-false}
+use Rattle.std.proofs.lemmas.Bool.{or_cases}
 use Rattle.words.proofs.Ordered.{and_left, and_right}
 use Rattle.refusals.specs.Refusals.{CLOCK, no_rtx, refuse_if, or_else}
 use Rattle.refusals.proofs.Laws.{or_else-first, or_else_second, or_else-none, passes-last}
@@ -70,10 +71,6 @@ module _ (k : ℕ) (d : List ℕ) (long : 12 ≤ length d) (bytes : EachByte d) 
 unfoldable pub Among : ℕ → Type 0
 Among n = some? (eqb n) flipped_numbers ≡ true
 
-either_way : (a b : Bool) → (a || b) ≡ true → (a ≡ true) ⊎ (b ≡ true)
-either_way true b e = inl refl
-either_way false b e = inr e
-
 module _ (t s most : ℕ) (d : List ℕ) (own : datagram_refusal t s most d ≡ 0) (bytes : EachByte d) (type sender largest : ℕ) (far : bits_apart 7 t type + bits_apart 32 s sender ≡ 1 → ⊥) where
   -- a bit that moves the pair
   moved : (i k : ℕ) → 1 ≤ i → i ≤ 11 → apart d (flip_bit i k d) ≡ 1 → Among (datagram_refusal type sender largest (flip_bit i k d))
@@ -102,7 +99,7 @@ module _ (t s most : ℕ) (d : List ℕ) (own : datagram_refusal t s most d ≡ 
   -- of any other type and sender that are not one bit away
   pub caught : (i k : ℕ) → guarded i k ≡ true → Among (datagram_refusal type sender largest (flip_bit i k d))
   unfolding guarded in_version in_payload_type in_ssrc Among some?
-  caught i k g = ⊎_elim version (λ r. ⊎_elim kind sender_bit (either_way _ _ r)) (either_way _ _ g)
+  caught i k g = ⊎_elim version (λ r. ⊎_elim kind sender_bit (or_cases _ _ r)) (or_cases _ _ g)
     where
       w : Whole d
       w = (accepted t s most d own).whole

@@ -1,6 +1,6 @@
 -- What holds of each element of a list, and that its numbers rise: kept by every part of the list, and by an element put in its place.
 -- Each law is by induction on the list; a test is taken by cases.
-use mathlib.Core.Path.{◌≡◌, refl, subst}
+use mathlib.Core.Path.{◌≡◌, refl, ap, subst}
 use mathlib.Core.Logic.{◌≢◌}
 use mathlib.Core.Bool.{Bool, true, false, cond, not, ◌&&◌, ◌||◌}
 use mathlib.Core.List.{List, [], ◌∷◌, ◌++◌, map}
@@ -11,8 +11,8 @@ use lib.Ieee.Fits.{and_l, and_r, and_i}
 use lib.ListN.{length, drop}
 use Rattle.words.specs.Order.{leads, ascends}
 use Rattle.model.specs.Lists.{following, keep, trailing, some?, every?}
-use Rattle.model.specs.Records.{Entry, Gap}
-use Rattle.model.specs.Rules.{is}
+use Rattle.model.specs.Records.{Entry, Gap, gap_numbers}
+use Rattle.model.specs.Rules.{is, fresh}
 use Rattle.model.specs.Push.{insert_sorted}
 
 -- ---- a test, by cases
@@ -252,3 +252,10 @@ unfolding some? is
 holds_of_some P n [] t h = absurd t
 holds_of_some P n (g ∷ gs) t (more h k) =
     by_or (eqb g.number n) (some? (is n) gs) t (λ y. subst P (eqb→eq g.number n y) h) (λ u. holds_of_some P n gs u k)
+
+-- ---- gaps that just opened
+
+pub numbers-fresh : (now : ℕ) (l : List ℕ) → gap_numbers (map (fresh now) l) ≡ l
+unfolding fresh
+numbers-fresh now [] = refl
+numbers-fresh now (x ∷ xs) = ap (λ (l : List ℕ). x ∷ l) (numbers-fresh now xs)

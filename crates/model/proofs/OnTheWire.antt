@@ -25,7 +25,7 @@ use Rattle.model.specs.Storage.{Stored, parse}
 use Rattle.model.specs.Calls.{Call, refused, wire, poll_nack, nack_wire, nack_answer, taken, answered, output_after}
 use Rattle.model.specs.Table.{refusal, call_refusal, output_refusal, poll_nack_refusal}
 use Rattle.model.specs.Did.{did, accepted, turned_back}
-use Rattle.model.specs.OnTheWire.{SameRefusal, SameEffect, ReadsBack, OnTheWire}
+use Rattle.model.specs.OnTheWire.{SameRefusal, SameEffect, ReadsBack, Beside, OnTheWire}
 use Rattle.model.proofs.Lists.{rising_keep, ascends_of_rising}
 use Rattle.model.proofs.Sound.{Sound}
 use Rattle.model.proofs.SoundPoll.{rising_not-given-up}
@@ -93,34 +93,38 @@ output-taken c m e = rw (eq-eqb (refusal c m) 0 e)
 front_is : (p d : List ℕ) (n : ℕ) → n ≡ length p → take n (over p d) ≡ p
 front_is p d n e = take-over n p d (omega arith) ∙ take_all n p (omega arith)
 
-same_refusal : (now : ℕ) (bytes list : List ℕ) (m : Stored) → SameRefusal now bytes list m
-unfolding refusal call_refusal poll_nack_refusal
-same_refusal now bytes list m e =
-    let needed = (parse m).queue.config.settings.max_gaps in
-    let h : length bytes / 4 ≡ length list = omega arith in
-    let o : output_refusal (4 * needed) (length bytes) ≡ output_refusal needed (length list) = wire-places _ _ ∙ ap (output_refusal needed) h in
-    rw o
+module _ (now : ℕ) (bytes list : List ℕ) (m : Stored) where
+  same_refusal : SameRefusal now bytes list m
+  unfolding refusal call_refusal poll_nack_refusal
+  same_refusal e =
+      let needed = (parse m).queue.config.settings.max_gaps in
+      let h : length bytes / 4 ≡ length list = omega arith in
+      let o : output_refusal (4 * needed) (length bytes) ≡ output_refusal needed (length list) = wire-places _ _ ∙ ap (output_refusal needed) h in
+      rw o
 
-same_effect : (now : ℕ) (bytes list : List ℕ) (m : Stored) → SameEffect now bytes list m
-unfolding taken
-same_effect now bytes list m e f = did-taken (nack_wire now bytes) m e ∙ sym (did-taken (poll_nack now list) m f)
+  same_effect : SameEffect now bytes list m
+  unfolding taken
+  same_effect e f = did-taken (nack_wire now bytes) m e ∙ sym (did-taken (poll_nack now list) m f)
 
-reads_back : (now : ℕ) (bytes list : List ℕ) (m : Stored) → ReadsBack now bytes list m
-unfolding output_after nack_numbers nack_entries_of entries
-reads_back now bytes list m n k back a b room =
-    let s = parse m in
-    let xs = gap_numbers (due_gaps now s.queue s.gaps) in
-    let w = wire-taken now m bytes n a in
-    let l = list-taken now m list k b in
-    let asc = due-ascend now s (accepted-sound (nack_wire now bytes) m w.0) in
-    let i : k ≡ length xs = l.1 ∙ sym (length-map (due_gaps now s.queue s.gaps) (λ (g : Gap). g.number)) in
-    let j : map truncated (due_gaps now s.queue s.gaps) ≡ map (low_bits 16) xs = sym (map-map (low_bits 16) (λ (g : Gap). g.number) (due_gaps now s.queue s.gaps)) in
-    let p : take n (did (nack_wire now bytes) m).output ≡ entries xs = ap (take n) (output-taken (nack_wire now bytes) m w.0) ∙ front_is (entries xs) bytes n w.1 in
-    let q : take k (did (poll_nack now list) m).output ≡ map (low_bits 16) xs =
-    ap (take k) (output-taken (poll_nack now list) m l.0) ∙ front_is _ list k (l.1 ∙ sym (length-map (due_gaps now s.queue s.gaps) truncated)) ∙ j in
-    let four = length-wire (pairs xs) in
-    let r = entries-taken xs back asc (omega (arith, w.1)) in
-    (rw (p, i) r.0, rw (p, q) r.1)
+  reads_back : ReadsBack now bytes list m
+  unfolding output_after nack_numbers nack_entries_of entries
+  reads_back n k back a b room =
+      let s = parse m in
+      let xs = gap_numbers (due_gaps now s.queue s.gaps) in
+      let w = wire-taken now m bytes n a in
+      let l = list-taken now m list k b in
+      let asc = due-ascend now s (accepted-sound (nack_wire now bytes) m w.0) in
+      let i : k ≡ length xs = l.1 ∙ sym (length-map (due_gaps now s.queue s.gaps) (λ (g : Gap). g.number)) in
+      let j : map truncated (due_gaps now s.queue s.gaps) ≡ map (low_bits 16) xs = sym (map-map (low_bits 16) (λ (g : Gap). g.number) (due_gaps now s.queue s.gaps)) in
+      let p : take n (did (nack_wire now bytes) m).output ≡ entries xs = ap (take n) (output-taken (nack_wire now bytes) m w.0) ∙ front_is (entries xs) bytes n w.1 in
+      let q : take k (did (poll_nack now list) m).output ≡ map (low_bits 16) xs =
+      ap (take k) (output-taken (poll_nack now list) m l.0) ∙ front_is _ list k (l.1 ∙ sym (length-map (due_gaps now s.queue s.gaps) truncated)) ∙ j in
+      let four = length-wire (pairs xs) in
+      let r = entries-taken xs back asc (omega (arith, w.1)) in
+      (rw (p, i) r.0, rw (p, q) r.1)
+
+  beside : Beside now bytes list m
+  beside = record { same_refusal = same_refusal; same_effect = same_effect; reads_back = reads_back }
 
 pub on_the_wire : OnTheWire
-on_the_wire = record { same_refusal = same_refusal; same_effect = same_effect; reads_back = reads_back }
+on_the_wire = beside

@@ -30,13 +30,6 @@ module _ (entries payloads gaps remembered : Lent) where
   abbrev pub left : Storage
   left = storage entries.exit.now payloads.exit.now gaps.exit.now remembered.exit.now
 
-  -- a session beside them
-  abbrev pub before : Session → Stored
-  before s = record { session = s; storage = lent }
-
-  abbrev pub after : Session → Stored
-  after s = record { session = s; storage = left }
-
 -- What a call of the code came to, in the definitions' terms: its value as an answer, or the number under which it was refused.
 abbrev pub said : {A : Type 0} → (A → Answer) → Result A Refusal → Answer
 said f (Ok x) = f x

@@ -28,7 +28,11 @@ module _ (now : ℕ) (bytes list : List ℕ) (m : Stored) where
       w.answer ≡ wire n → l.answer ≡ nack_answer k → NUMBERS * (n / entry_bytes) ≤ length back
       → (read_answer (take n w.output) (length back) ≡ Ok k) × (list_after (take n w.output) back ≡ over (take k l.output) back)
 
-pub record OnTheWire : Type 0 where
-  pub same_refusal : (now : ℕ) (bytes list : List ℕ) (m : Stored) → SameRefusal now bytes list m
-  pub same_effect : (now : ℕ) (bytes list : List ℕ) (m : Stored) → SameEffect now bytes list m
-  pub reads_back : (now : ℕ) (bytes list : List ℕ) (m : Stored) → ReadsBack now bytes list m
+  -- all three
+  pub record Beside : Type 0 where
+    pub same_refusal : SameRefusal
+    pub same_effect : SameEffect
+    pub reads_back : ReadsBack
+
+abbrev pub OnTheWire : Type 0
+OnTheWire = (now : ℕ) (bytes list : List ℕ) (m : Stored) → Beside now bytes list m

@@ -15,16 +15,21 @@ longest_step = 1000
 abbrev pub most_remembered : ℕ
 most_remembered = 1024
 
--- the gaps after a media packet s above the highest number h
-abbrev pub stepped : (now h s : ℕ) → List Gap → List Gap
-stepped now h s l = gaps_after now (h + s) (place_of (Some h) l (h + s)) l
+-- A media packet comes s above the highest number h, while the gaps l are open.
+module _ (now h s : ℕ) (l : List Gap) where
+  -- the gaps after it
+  abbrev pub stepped : List Gap
+  stepped = gaps_after now (h + s) (place_of (Some h) l (h + s)) l
+
+  pub record Stepped : Type 0 where
+    -- "A forward step s of at most 1,000 opens s − 1 gaps": 999 at 1,000
+    pub opens : 1 ≤ s → s ≤ longest_step → gap_numbers stepped ≡ gap_numbers l ++ following (suc h) (s - 1)
+    pub so_many : 1 ≤ s → s ≤ longest_step → length stepped ≡ length l + (s - 1)
+    -- "a larger one clears every gap and opens none": from 1,001 on
+    pub clears : longest_step < s → stepped ≡ []
 
 pub record SharedRules : Type 0 where
-  -- "A forward step s of at most 1,000 opens s − 1 gaps": 999 at 1,000
-  pub opens : (now h s : ℕ) (l : List Gap) → 1 ≤ s → s ≤ longest_step → gap_numbers (stepped now h s l) ≡ gap_numbers l ++ following (suc h) (s - 1)
-  pub so_many : (now h s : ℕ) (l : List Gap) → 1 ≤ s → s ≤ longest_step → length (stepped now h s l) ≡ length l + (s - 1)
-  -- "a larger one clears every gap and opens none": from 1,001 on
-  pub clears : (now h s : ℕ) (l : List Gap) → longest_step < s → stepped now h s l ≡ []
+  pub step : (now h s : ℕ) (l : List Gap) → Stepped now h s l
   -- "Gaps below the one handed out become lost", those below w and no other, in sorted mode alone
   pub lost_below : (sorted : RtpInboundStreamSortedQueueMode) (w : ℕ) (l : List Gap) → T (every? (λ (g : Gap). ltb g.number w) (lost_below_of (SortedQueue sorted) w l))
   pub left_from : (sorted : RtpInboundStreamSortedQueueMode) (w : ℕ) (l : List Gap) → T (every? (λ (g : Gap). leb w g.number) (left_from_of (SortedQueue sorted) w l))

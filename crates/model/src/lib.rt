@@ -31,7 +31,7 @@ pub struct Received {
     pub number: ExtendedSequenceNumber,
 }
 
-#[derive(Clone, Copy)]
+#[derive(Clone, Copy, Default)]
 pub struct Counters {
     pub dropped: u64,
     pub received: u64,

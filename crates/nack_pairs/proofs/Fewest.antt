@@ -2,28 +2,18 @@
 -- of them begins at or below it, so it names none of the later ones: take it out, and go on with the rest.
 use mathlib.Core.Path.{◌≡◌, refl, sym, ap, ◌∙◌}
 use mathlib.Core.Bool.{Bool, true, false, cond, ◌&&◌, ◌||◌, false≢true}
+use mathlib.Core.Logic.{⊎_elim}
 use mathlib.Core.List.{List, [], ◌∷◌, ◌++◌}
 use Prim.Native.Nat.{ℕ, zero, suc, ◌+◌, ◌/◌, ◌%◌, ◌≤◌, ◌<◌}
 use native.Mathlib.Omega.{arith}
 use lib.Dec.{leb, eqb}
 use lib.ListN.{length}
-use borrow.Author.Tests.{le-leb, lt-leb, leb-true, eqb-true, eq-eqb}
+use Rattle.std.proofs.lemmas.Bool.{le-leb, lt-leb, leb-true, eqb-true, eq-eqb, or_cases, or_left, or_right}
 use Rattle.words.specs.Order.{ascends}
 use Rattle.words.proofs.Ordered.{and_left}
 use Rattle.nack_pairs.specs.Pairs.{Pair, pairs, put_if, marked, named, named_by, member}
 use Rattle.nack_pairs.specs.Pairing.{Beyond, Apart}
 use Rattle.nack_pairs.proofs.Chain.{pairs-names, pairs-apart}
-
-or_cases : {A : Type 0} (a b : Bool) → (a || b) ≡ true → (a ≡ true → A) → (b ≡ true → A) → A
-or_cases true b e f g = f refl
-or_cases false b e f g = g e
-
-or_in_left : (a b : Bool) → a ≡ true → (a || b) ≡ true
-or_in_left a b e = rw e
-
-or_in_right : (a b : Bool) → b ≡ true → (a || b) ≡ true
-or_in_right true b e = refl
-or_in_right false b e = e
 
 member_append : (x : ℕ) (xs ys : List ℕ) → member x (xs ++ ys) ≡ (member x xs || member x ys)
 unfolding member
@@ -56,17 +46,16 @@ marked_among (suc n) at mask x e = go (eqb (mask % 2) 1) e (marked_among n (at +
 
     go : (b : Bool) → member x (put_if b at (marked n (at + 1) (mask / 2))) ≡ true → (member x (marked n (at + 1) (mask / 2)) ≡ true → Among (at + 1) n x) → Among at (suc n) x
     go true e i =
-        or_cases (eqb at x) (member x (marked n (at + 1) (mask / 2))) e
-        (λ h. let q : at ≡ x = eqb-true at x h in record { low = omega arith; high = omega arith })
-        (λ h. wider (i h))
+        ⊎_elim (λ h. let q : at ≡ x = eqb-true at x h in record { low = omega arith; high = omega arith }) (λ h. wider (i h))
+        (or_cases (eqb at x) (member x (marked n (at + 1) (mask / 2))) e)
     go false e i = wider (i e)
 
 named-covers : (p : Pair) (x : ℕ) → member x (named p) ≡ true → covers p x ≡ true
 unfolding named member
 named-covers p x e =
-    or_cases (eqb p.first x) (member x (marked 16 (p.first + 1) p.mask)) e
-    (λ h. let q : p.first ≡ x = eqb-true p.first x h in covers-is p x (omega arith) (omega arith))
+    ⊎_elim (λ h. let q : p.first ≡ x = eqb-true p.first x h in covers-is p x (omega arith) (omega arith))
     (λ h. let r = marked_among 16 (p.first + 1) p.mask x h in covers-is p x (omega (arith, r.low)) (omega (arith, r.high)))
+    (or_cases (eqb p.first x) (member x (marked 16 (p.first + 1) p.mask)) e)
 
 covered : ℕ → List Pair → Bool
 covered x [] = false
@@ -76,9 +65,8 @@ named_covered : (x : ℕ) (ps : List Pair) → member x (named_by ps) ≡ true �
 unfolding named_by member covered
 named_covered x [] e = e
 named_covered x (p ∷ ps) e =
-    or_cases (member x (named p)) (member x (named_by ps)) (sym (member_append x (named p) (named_by ps)) ∙ e)
-    (λ h. or_in_left (covers p x) (covered x ps) (named-covers p x h))
-    (λ h. or_in_right (covers p x) (covered x ps) (named_covered x ps h))
+    ⊎_elim (λ h. or_left (covers p x) (covered x ps) (named-covers p x h)) (λ h. or_right (covers p x) (covered x ps) (named_covered x ps h))
+    (or_cases (member x (named p)) (member x (named_by ps)) (sym (member_append x (named p) (named_by ps)) ∙ e))
 
 -- without the first pair that covers x
 without : ℕ → List Pair → List Pair
@@ -110,7 +98,7 @@ still_covered x y (p ∷ ps) h e = go (covers p x) refl (still_covered x y ps h)
 
     go : (b : Bool) → covers p x ≡ b → (covered y ps ≡ true → covered y (without x ps) ≡ true) → covered y (cond b ps (p ∷ without x ps)) ≡ true
     go true k i = skip (covers p y) (covered y ps) (far k) e
-    go false k i = or_cases (covers p y) (covered y ps) e (λ w. or_in_left (covers p y) (covered y (without x ps)) w) (λ w. or_in_right (covers p y) (covered y (without x ps)) (i w))
+    go false k i = ⊎_elim (or_left (covers p y) (covered y (without x ps))) (λ w. or_right (covers p y) (covered y (without x ps)) (i w)) (or_cases (covers p y) (covered y ps) e)
 
 -- each pair's first number is covered by ps
 Covered : List Pair → List Pair → Type 0
@@ -136,7 +124,7 @@ unfolding Covered named_by member
 firsts_covered [] ps xs f g = tt
 firsts_covered (q ∷ qs) ps xs f g =
     let m : member q.first (named_by (q ∷ qs)) ≡ true = rw (eq-eqb q.first q.first refl) in
-    (f q.first (g q.first m), firsts_covered qs ps xs f (λ x h. g x (member_append x (named q) (named_by qs) ∙ or_in_right (member x (named q)) (member x (named_by qs)) h)))
+    (f q.first (g q.first m), firsts_covered qs ps xs f (λ x h. g x (member_append x (named q) (named_by qs) ∙ or_right (member x (named q)) (member x (named_by qs)) h)))
 
 pub pairs_fewest : (xs : List ℕ) → ascends xs ≡ true → (ps : List Pair) → ((x : ℕ) → member x (named_by ps) ≡ member x xs) → length (pairs xs) ≤ length ps
 pairs_fewest xs a ps same =

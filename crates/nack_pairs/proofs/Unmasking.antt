@@ -9,9 +9,11 @@ use lib.Dec.{ltb, eqb}
 use lib.ListN.{length, take, drop, get_or, set, length-append, length-map, length-drop, drop_of_length-le}
 use lib.Seq.{drop-drop, get_or-drop, take-add, take_all, take-append_seam, drop-append_seam, drop-cons, length-take-le}
 use borrow.Author.Tests.{eq-eqb, ne_eqb, lt-ltb, le-ltb}
+use Rattle.std.specs.Simd.{first_chunks}
 use Rattle.words.specs.Order.{ascends}
 use Rattle.words.specs.Words.{over, written}
 use Rattle.words.proofs.Loops.{Writing, writing_more}
+use Rattle.words.proofs.Blocked.{chunk-word}
 use Rattle.words.proofs.Over.{over_nil, length_over}
 use Rattle.words.proofs.Moves.{written_next}
 use Rattle.rtp.specs.Numbers.{low_bits}
@@ -159,13 +161,17 @@ module _ (bytes : List ℕ) where
           few = omega (arith, r.few);
         }
 
-    pub reading_more : (first mask more : ℕ) (new : List ℕ) → first ≡ 256 * get_or bytes (4 * i) 0 + get_or bytes (4 * i + 1) 0
-        → mask ≡ 256 * get_or bytes (4 * i + 2) 0 + get_or bytes (4 * i + 2 + 1) 0 → more ≡ length (named16 first mask) → new ≡ written count (named16 first mask) list
-        → Reading list₀ new (count + more) (i + 1)
-    reading_more first mask more new ef em k w =
-        let e : 4 * i + 2 + 1 ≡ 4 * i + 3 = omega arith in
-        let g : mask ≡ 256 * get_or bytes (4 * i + 2) 0 + get_or bytes (4 * i + 3) 0 = em ∙ ap (λ (j : ℕ). 256 * get_or bytes (4 * i + 2) 0 + get_or bytes j 0) e in
-        rw k (reading_next (named16 first mask) new (ap₂ named16 ef g) w)
+    byte_at : (j : ℕ) → j < 4 → get_or (get_or (first_chunks 4 (length bytes / 4) bytes) i []) j 0 ≡ get_or bytes (4 * i + j) 0
+    byte_at j = chunk-word 4 (length bytes / 4) i j bytes h
+
+    pub reading_more : (entries : List (List ℕ)) (first mask more : ℕ) (new : List ℕ) → entries ≡ first_chunks 4 (length bytes / 4) bytes
+        → first ≡ get_or (get_or entries i []) 0 0 * 256 + get_or (get_or entries i []) 1 0 → mask ≡ get_or (get_or entries i []) 2 0 * 256 + get_or (get_or entries i []) 3 0
+        → more ≡ length (named16 first mask) → new ≡ written count (named16 first mask) list → Reading list₀ new (count + more) (i + 1)
+    reading_more entries first mask more new c ef em k w =
+        let z : 4 * i + 0 ≡ 4 * i = omega arith in
+        let f : first ≡ 256 * get_or bytes (4 * i) 0 + get_or bytes (4 * i + 1) 0 = omega (arith, rw (c, byte_at 0 (omega arith), byte_at 1 (omega arith), z) at ef) in
+        let g : mask ≡ 256 * get_or bytes (4 * i + 2) 0 + get_or bytes (4 * i + 3) 0 = omega (arith, rw (c, byte_at 2 (omega arith), byte_at 3 (omega arith)) at em) in
+        rw k (reading_next (named16 first mask) new (ap₂ named16 f g) w)
 
   pub reading_all : {list₀ list : List ℕ} {count i : ℕ} → Reading list₀ list count i → length bytes % 4 ≡ 0 → length bytes / 4 ≤ i → (count ≡ length (numbers_in bytes)) × (list ≡ over (numbers_in bytes) list₀)
   unfolding numbers_in

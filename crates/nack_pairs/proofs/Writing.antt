@@ -123,9 +123,6 @@ stands-bytes (y ∷ ys) n s =
     let b = length-bytes (last (pair y 0) ys) in
     s.0 ∙ rw (entries-split y ys, length-append (wire (before (pair y 0) ys)) (bytes_of (last (pair y 0) ys))) (omega arith)
 
-pub named-bytes : (xs : List ℕ) (n : Naming) (out₀ out : List ℕ) → Named xs n out₀ out → n.bytes ≡ length (entries xs)
-named-bytes xs n out₀ out k = stands-bytes xs n k.stands
-
 pub length-entries : (xs : List ℕ) → length (entries xs) ≤ 4 * length xs
 unfolding entries pairs wire
 length-entries [] = omega arith
@@ -142,9 +139,6 @@ stands_follows [] n x s a h = record { short = h; whole = λ k. absurd (omega ar
 stands_follows (y ∷ ys) n x s a h =
     let f = last-free (pair y 0) y ys x (bound_begun y) a in
     record { short = h; whole = λ k. omega (arith, s.0); above = λ k. rw s.1 at f.above; free = λ k. rw s.1 at f.free }
-
-pub named_follows : (xs : List ℕ) (n : Naming) (out₀ out : List ℕ) (x : ℕ) → Named xs n out₀ out → ascends (xs ++ (x ∷ [])) ≡ true → 4 * length xs + 4 < 2 ^ 64 → Follows n x
-named_follows xs n out₀ out x k a h = stands_follows xs n x k.stands a (omega (arith, named-bytes xs n out₀ out k, length-entries xs))
 
 -- what `named_next` does, by where x stands
 module _ (n : Naming) (x : ℕ) where
@@ -229,27 +223,34 @@ unfolding Stands
 step [] x n out₀ s = rw (next_none n x s) (step-none x out₀)
 step (y ∷ ys) x n out₀ s = by_place (opened n) x (λ h. rw (next_in n x (omega (arith, s.0)) h) (step_in y ys x n out₀ s h)) (λ h. rw (next_new n x (omega (arith, s.0)) h) (step_new y ys x n out₀ s h))
 
--- how far the entries go with x
-pub next_bytes : (xs : List ℕ) (n : Naming) (out₀ out : List ℕ) (x : ℕ) → Named xs n out₀ out → (named_next n x).bytes ≤ 4 * length xs + 4
-next_bytes xs n out₀ out x k =
-    let e = stands-bytes (xs ++ (x ∷ [])) (named_next n x) (step xs x n out₀ k.stands).stands in
-    let l = length-entries (xs ++ (x ∷ [])) in
-    let m = length-append xs (x ∷ []) in
-    omega arith
+module _ {xs : List ℕ} {n : Naming} {out₀ out : List ℕ} (k : Named xs n out₀ out) where
+  pub named-bytes : n.bytes ≡ length (entries xs)
+  named-bytes = stands-bytes xs n k.stands
 
-pub named_more : (xs : List ℕ) (n m : Naming) (out₀ out new : List ℕ) (x : ℕ) → Named xs n out₀ out → 4 * length xs + 4 ≤ length out₀ → m ≡ named_next n x
-    → new ≡ written (m.bytes - 4) (bytes_of (opened m)) out → Named (xs ++ (x ∷ [])) m out₀ new
-named_more xs n m out₀ out new x k r e w =
-    let z = step xs x n out₀ k.stands in
-    let l = length-entries (xs ++ (x ∷ [])) in
-    let a = length-append xs (x ∷ []) in
-    let g : new ≡ over (entries (xs ++ (x ∷ []))) out₀ =
-    w ∙ ap (λ (q : Naming). written (q.bytes - 4) (bytes_of (opened q)) out) e ∙ ap (written ((named_next n x).bytes - 4) (bytes_of (opened (named_next n x)))) k.written ∙ z.grows in
-    record {
-      stands = rw e z.stands;
-      written = g;
-      same = ap length g ∙ length_over (entries (xs ++ (x ∷ []))) out₀ (omega arith);
-    }
+  pub named_follows : (x : ℕ) → ascends (xs ++ (x ∷ [])) ≡ true → 4 * length xs + 4 < 2 ^ 64 → Follows n x
+  named_follows x a h = stands_follows xs n x k.stands a (omega (arith, named-bytes, length-entries xs))
+
+  -- how far the entries go with x
+  pub next_bytes : (x : ℕ) → (named_next n x).bytes ≤ 4 * length xs + 4
+  next_bytes x =
+      let e = stands-bytes (xs ++ (x ∷ [])) (named_next n x) (step xs x n out₀ k.stands).stands in
+      let l = length-entries (xs ++ (x ∷ [])) in
+      let m = length-append xs (x ∷ []) in
+      omega arith
+
+  pub named_more : (m : Naming) (new : List ℕ) (x : ℕ) → 4 * length xs + 4 ≤ length out₀ → m ≡ named_next n x
+      → new ≡ written (m.bytes - 4) (bytes_of (opened m)) out → Named (xs ++ (x ∷ [])) m out₀ new
+  named_more m new x r e w =
+      let z = step xs x n out₀ k.stands in
+      let l = length-entries (xs ++ (x ∷ [])) in
+      let a = length-append xs (x ∷ []) in
+      let g : new ≡ over (entries (xs ++ (x ∷ []))) out₀ =
+      w ∙ ap (λ (q : Naming). written (q.bytes - 4) (bytes_of (opened q)) out) e ∙ ap (written ((named_next n x).bytes - 4) (bytes_of (opened (named_next n x)))) k.written ∙ z.grows in
+      record {
+        stands = rw e z.stands;
+        written = g;
+        same = ap length g ∙ length_over (entries (xs ++ (x ∷ []))) out₀ (omega arith);
+      }
 
 -- ---- what the code's steps have to know
 

@@ -15,23 +15,18 @@ pub mod read;
 pub const ENTRY_BYTES: usize = 4;
 
 // How far the entries go, and the last pair, which may still name more; where there are no bytes there is none.
-// Stays: the entries lie in the lent output, and this says how far they go.
-#[derive(Clone, Copy)]
+// Stays: an `Option` of the pair beside `bytes` would say none twice; `bytes` 0 is one test (`next`), which the definition has too.
+#[derive(Clone, Copy, Default)]
 pub struct Naming {
     pub bytes: usize,
     pub first: u64,
     pub mask: u64,
 }
 
-// Stays: no bytes are named yet: a name says more than a default.
 pub fn none_named() -> Naming
     ensures { result.bytes ≡ 0 }
 {
-    Naming {
-        bytes: 0,
-        first: 0,
-        mask: 0,
-    }
+    Naming::default()
 }
 
 // n with x named too, which is above the numbers that were named.

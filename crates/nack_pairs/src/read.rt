@@ -11,14 +11,6 @@ use refusals::Refusal;
 // The most numbers that a pair names.
 const NUMBERS: usize = 17;
 
-// Two bytes, the high one first.
-fn sixteen(bytes: &[u8], at: usize) -> u16
-    requires { at + 2 ≤ length bytes.now }
-    ensures { result ≡ 256 * get_or bytes.now at 0 + get_or bytes.now (at + 1) 0 }
-{
-    u16::from_be_bytes([bytes[at], bytes[at + 1]])
-}
-
 // Writes the numbers that one pair names to the front of `part`, and says how many they are.
 #[tactic(auto, using(crate::proofs::Unmasking::unmasking))]
 fn unmask(part: &mut [u16], first: u16, mask: u16) -> usize
@@ -29,6 +21,7 @@ fn unmask(part: &mut [u16], first: u16, mask: u16) -> usize
     part[0] = first;
     let mut count = 1;
     let mut left = mask;
+    // Stays: the place goes up only where the bit is set, so that no iterator over `part` goes along with k.
     for k in 1..17 {
         if left % 2 == 1 {
             part[count] = first.wrapping_add(k);
@@ -54,10 +47,10 @@ pub fn read(bytes: &[u8], list: &mut [u16]) -> Result<usize, Refusal>
         return Err(Refusal::NackEntries);
     }
     let mut count = 0;
-    for i in 0..whole {
-        let at = ENTRY_BYTES * i;
-        let first = sixteen(bytes, at);
-        let mask = sixteen(bytes, at + 2);
+    for entry in bytes.as_chunks::<ENTRY_BYTES>().0 {
+        let [first_high, first_low, mask_high, mask_low] = *entry;
+        let first = u16::from_be_bytes([first_high, first_low]);
+        let mask = u16::from_be_bytes([mask_high, mask_low]);
         let more = unmask(&mut list[count..], first, mask);
         count += more;
     }

@@ -1,5 +1,5 @@
 -- The loop of `open_between`: each turn writes one gap behind the others, so that the gaps from the first number to the next are open.
-use mathlib.Core.Path.{◌≡◌, refl, sym, ap, ◌∙◌}
+use mathlib.Core.Path.{◌≡◌, refl, ap, ◌∙◌}
 use mathlib.Core.List.{List, [], ◌∷◌, ◌++◌, map, append_assoc, append-nil}
 use Prim.Native.Nat.{ℕ, zero, suc, ◌+◌, ◌*◌, ◌-◌, ◌≤◌, ◌<◌}
 use native.Mathlib.Omega.{arith}
@@ -37,37 +37,29 @@ opened_next : (s₀ : List ℕ) (n first at k : ℕ) → opened s₀ n first at 
 unfolding opened
 opened_next s₀ n first at k = rw (append_assoc, following_next first k, map-append)
 
-pub record Opening (s₀ s : List ℕ) (n first x at number i : ℕ) : Type 0 where
-  pub count : i ≡ n + (number - first)
+-- k of them are
+pub record Opening (s₀ s : List ℕ) (n first x at k : ℕ) : Type 0 where
   pub room : gap_words * (n + (x - first)) ≤ length s₀
   pub same : length s ≡ length s₀
-  pub held : s ≡ laid gap_words_of (length s₀) (opened s₀ n first at (number - first))
+  pub held : s ≡ laid gap_words_of (length s₀) (opened s₀ n first at k)
 
-pub opening-none : {s₀ : List ℕ} {n first x at : ℕ} → GapsIn s₀ n → gap_words * (n + (x - first)) ≤ length s₀ → Opening s₀ s₀ n first x at first n
+pub opening-none : {s₀ : List ℕ} {n first x at : ℕ} → GapsIn s₀ n → gap_words * (n + (x - first)) ≤ length s₀ → Opening s₀ s₀ n first x at 0
 unfolding opened following
-opening-none {first = first} k r =
-    let z : first - first ≡ 0 = omega arith in
-    record { count = omega arith; room = r; same = refl; held = rw (z, append-nil) k.held }
+opening-none k r = record { room = r; same = refl; held = rw append-nil k.held }
 
-pub opening_more : {s₀ s t : List ℕ} {n first x at number i : ℕ} → Opening s₀ s n first x at number i → first ≤ number → number < x
-    → t ≡ written (gap_words * i) (gap_words_of (fresh at number)) s → Opening s₀ t n first x at (number + 1) (i + 1)
-opening_more {s₀} {s} {t} {n} {first} {x} {at} {number} {i} o f l e =
-    let k = number - first in
-    let count : i ≡ n + k = o.count in
+pub opening_more : {s₀ s t : List ℕ} {n first x at k : ℕ} → Opening s₀ s n first x at k → k < x - first
+    → t ≡ written (gap_words * (n + k)) (gap_words_of (fresh at (first + k))) s → Opening s₀ t n first x at (k + 1)
+opening_more {s₀} {s} {t} {n} {first} {x} {at} {k} o l e =
     let room : gap_words * (n + (x - first)) ≤ length s₀ = o.room in
-    let v : first + k ≡ number = omega arith in
-    let z : suc k ≡ number + 1 - first = omega arith in
-    let xs = opened s₀ n first at k in
-    let lx : length xs ≡ i = length-opened s₀ n first at k ∙ omega arith in
-    let ly : length (opened s₀ n first at (number + 1 - first)) ≡ i + 1 = length-opened s₀ n first at (number + 1 - first) ∙ omega arith in
-    let held : t ≡ laid gap_words_of (length s₀) (opened s₀ n first at (number + 1 - first)) =
+    let z : suc k ≡ k + 1 = omega arith in
+    let ly : length (opened s₀ n first at (k + 1)) ≡ n + (k + 1) = length-opened s₀ n first at (k + 1) in
+    let held : t ≡ laid gap_words_of (length s₀) (opened s₀ n first at (k + 1)) =
     e
-    ∙ holds_pushed (gaps-held o.held lx (omega arith)) (fresh at number)
-    ∙ ap (λ (m : ℕ). laid gap_words_of (length s₀) (xs ++ (fresh at m ∷ []))) (sym v)
+    ∙ holds_pushed (gaps-held o.held (length-opened s₀ n first at k) (omega arith)) (fresh at (first + k))
     ∙ ap (laid gap_words_of (length s₀)) (opened_next s₀ n first at k ∙ ap (opened s₀ n first at) z) in
-    record { count = omega arith; room = room; same = holds-length (gaps-held held ly (omega arith)); held = held }
+    record { room = room; same = holds-length (gaps-held held ly (omega arith)); held = held }
 
-pub opening_all : (h : ℕ) {s₀ s : List ℕ} {n x at number i : ℕ} → Opening s₀ s n (h + 1) x at number i → number ≡ x
+pub opening_all : (h : ℕ) {s₀ s : List ℕ} {n x at k : ℕ} → Opening s₀ s n (h + 1) x at k → k ≡ x - (h + 1)
     → s ≡ laid gap_words_of (length s₀) (gaps_of s₀ n ++ map (fresh at) (between h x))
 unfolding opened between
 opening_all h o e =

@@ -1,6 +1,6 @@
 -- A turn of a loop over a list's places, from place i on: what the element there decides, and what the rest does.
 use mathlib.Core.Path.{◌≡◌, refl, sym, ap, ◌∙◌}
-use mathlib.Core.Bool.{Bool, true, false, ◌&&◌, ◌||◌, false≢true}
+use mathlib.Core.Bool.{Bool, true, false, ◌&&◌, and-false}
 use mathlib.Core.List.{List, [], ◌∷◌, ◌++◌, map}
 use Prim.Native.Nat.{ℕ, zero, suc, ◌+◌, ◌≤◌, ◌<◌}
 use native.Mathlib.Numerals.{add-one}
@@ -12,14 +12,6 @@ use borrow.Author.Tests.{lt-ltb, le-ltb}
 use Rattle.words.specs.Order.{ascends}
 use Rattle.words.proofs.Ordered.{and_left, and_right, ascends_more, ascends-end}
 use Rattle.model.specs.Lists.{keep, leading, some?, every?}
-
-pub or_left : (a b : Bool) → (a || b) ≡ false → a ≡ false
-or_left false b e = refl
-or_left true b e = e
-
-pub or_right : (a b : Bool) → (a || b) ≡ false → b ≡ false
-or_right false b e = e
-or_right true b e = absurd (false≢true (sym e))
 
 pub every-at : {A : Type 0} (p : A → Bool) (xs : List A) (d : A) (i : ℕ) → every? p xs ≡ true → i < length xs → p (get_or xs i d) ≡ true
 unfolding every?
@@ -75,10 +67,6 @@ leading_end p xs i h = let e : drop i xs ≡ [] = drop_of_length-le xs {i = i} h
 
 -- ---- one pass for two properties: the numbers ascend, and each passes the test
 
-and_none : (a : Bool) → (a && false) ≡ false
-and_none true = refl
-and_none false = refl
-
 -- what a loop over n places has read at place i: the number there, and whether the test passes
 pub record Turn {A : Type 0} (number : A → ℕ) (test : A → Bool) (d : A) (xs : List A) (n i x : ℕ) (passes : Bool) : Type 0 where
   pub count : length xs ≡ n
@@ -96,7 +84,7 @@ module _ {A : Type 0} {number : A → ℕ} {test : A → Bool} {d : A} {xs : Lis
 
   pub left_bad : passes ≡ false → left number test xs i ≡ false
   unfolding left every?
-  left_bad e = rw (next, ← t.tested, e) (and_none (ascends (drop i (map number xs))))
+  left_bad e = rw (next, ← t.tested, e) (and-false (ascends (drop i (map number xs))))
 
   pub left-last : passes ≡ true → n ≤ i + 1 → left number test xs i ≡ left number test xs (i + 1)
   unfolding left every?

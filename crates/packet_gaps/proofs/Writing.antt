@@ -29,7 +29,8 @@ use Rattle.model.proofs.Lists.{length-keep, rising_of_ascends, ascends_of_rising
 use Rattle.model.proofs.Laid.{gap_wide, gaps-held, gap_coded, length-gaps_of}
 use Rattle.packet_gaps.specs.Gaps.{GapsIn, instants_fit}
 use Rattle.packet_gaps.proofs.Laws.{no_gap, gap_at}
-use Rattle.packet_gaps.proofs.Turns.{or_left, or_right, every-at, drop_next, take_next}
+use Rattle.std.proofs.lemmas.Bool.{or_parts}
+use Rattle.packet_gaps.proofs.Turns.{every-at, drop_next, take_next}
 
 -- ---- those that pass a test, one more at a time
 
@@ -62,11 +63,11 @@ module _ {A : Type 0} (p : A → Bool) where
 pub none-at : {A : Type 0} (q p : A → Bool) (xs : List A) (d : A) (i : ℕ) → some? p (keep q xs) ≡ false → i < length xs → q (get_or xs i d) ≡ true → p (get_or xs i d) ≡ false
 unfolding some? keep
 none-at q p [] d i e h a = absurd (omega arith)
-none-at q p (x ∷ xs) d zero e h a = let f : some? p (x ∷ keep q xs) ≡ false = rw a at e in or_left (p x) (some? p (keep q xs)) f
+none-at q p (x ∷ xs) d zero e h a = let f : some? p (x ∷ keep q xs) ≡ false = rw a at e in (or_parts (p x) (some? p (keep q xs)) f).0
 none-at q p (x ∷ xs) d (suc i) e h a = go (λ f. none-at q p xs d i f (omega arith) a) (q x) e
   where
     go : (some? p (keep q xs) ≡ false → p (get_or xs i d) ≡ false) → (b : Bool) → some? p (cond b (x ∷ keep q xs) (keep q xs)) ≡ false → p (get_or xs i d) ≡ false
-    go ih true f = ih (or_right (p x) (some? p (keep q xs)) f)
+    go ih true f = ih (or_parts (p x) (some? p (keep q xs)) f).1
     go ih false f = ih f
 
 abbrev gap_number : Gap → ℕ
@@ -315,10 +316,10 @@ module _ {t : NackTimings} {now : ℕ} {s₀ out₀ s out : List ℕ} {n i : ℕ
         ∙ ap (λ (k : ℕ). sofar ++ (k ∷ [])) (sym (ev ∙ ap gap_number (nacked_here c.gaps h e)))
 
     pub wiring_follows : ascends (gap_numbers (gaps_of s₀ n)) ≡ true → entry_bytes * n < 2 ^ 64 → Follows named v
-    wiring_follows a l = named_follows sofar named out₀ out v c.entries (ap ascends (sym one_more) ∙ due-ascend (due t now) (gaps_of s₀ n) (i + 1) a) (omega (arith, few))
+    wiring_follows a l = named_follows c.entries v (ap ascends (sym one_more) ∙ due-ascend (due t now) (gaps_of s₀ n) (i + 1) a) (omega (arith, few))
 
     pub wiring_room : (named_next named v).bytes ≤ length out
-    wiring_room = omega (arith, few, next_bytes sofar named out₀ out v c.entries, c.entries.same, c.room)
+    wiring_room = omega (arith, few, next_bytes c.entries v, c.entries.same, c.room)
 
     pub wiring_due : {y : Gap} {u o : List ℕ} {m : Naming} → y ≡ nacked now g → u ≡ written (gap_words * i) (gap_words_of y) s
         → m ≡ named_next named v → o ≡ written (m.bytes - entry_bytes) (bytes_of (opened m)) out → Wiring t now s₀ out₀ u o n (i + 1) m
@@ -326,7 +327,7 @@ module _ {t : NackTimings} {now : ℕ} {s₀ out₀ s out : List ℕ} {n i : ℕ
         record {
           gaps = nacked-due c.gaps h e er z ey eu;
           room = c.room;
-          entries = rw one_more (named_more sofar named m out₀ out o v c.entries (omega (arith, few, c.room)) em eo);
+          entries = rw one_more (named_more c.entries m o v (omega (arith, few, c.room)) em eo);
         }
 
   pub wiring_skip : r ≡ false → Wiring t now s₀ out₀ s out n (i + 1) named
@@ -339,7 +340,7 @@ module _ {t : NackTimings} {now : ℕ} {s₀ out₀ s out : List ℕ} {n i : ℕ
   wiring_all = subst (λ (l : List Gap). Named (gap_numbers l) named out₀ out) (all_due c.gaps h) c.entries
 
   pub wiring_bytes : named.bytes ≡ length (entries (gap_numbers (keep (due t now) (gaps_of s₀ n))))
-  wiring_bytes = named-bytes _ named out₀ out wiring_all
+  wiring_bytes = named-bytes wiring_all
 
   pub wiring_out : out ≡ over (entries (gap_numbers (keep (due t now) (gaps_of s₀ n)))) out₀
   wiring_out = wiring_all.written

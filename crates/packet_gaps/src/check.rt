@@ -35,7 +35,7 @@ fn passed_of(
     }
 }
 
-// Stays: it takes three of the queue's fields, and converts nothing.
+// Stays: contracts of the crates above rest on `bounds_of`, which `From` would give through `from_gives`, one step further.
 #[tactic(auto, unfolding(model::specs::Valid::bounds_of, model::specs::Records::highest_of, rtp::specs::Opt::number_of))]
 pub fn bounds_of(q: Queue) -> Bounds
     ensures { bounds result ≡ bounds_of q }
@@ -71,12 +71,13 @@ fn gap_sound(b: Bounds, g: Gap) -> bool
 }
 
 // Whether the numbers of the n gaps ascend, and each gap keeps to the bounds.
-// Stays: the caller lends the words (the C interface), and the session has the count.
+// Stays: the contract is of `gaps_of s n`; of a part `&s[..4 * n]` each caller would have to show that its records are those of s.
 #[tactic(auto, using(crate::proofs::Scan::sounding), unfolding(crate::proofs::Turns::left))]
 pub fn are_sound(s: &[u64], n: usize, b: Bounds) -> bool
     requires { gap_words * n ≤ length s.now }
     ensures { result ≡ gaps_sound (bounds b) (gaps_of s.now n) }
 {
+    // Stays: as in `nacks::any_full`; and each turn looks at the next gap's number too.
     for i in 0..n {
         let g = super::read(s, i);
         if !gap_sound(b, g) {
@@ -91,7 +92,7 @@ pub fn are_sound(s: &[u64], n: usize, b: Bounds) -> bool
 }
 
 // Zeros after the n gaps.
-// Stays: the caller lends the words (the C interface), and the session has the count.
+// Stays: the contract is of all of s, zeros behind the records too, so the n records alone would not do; no struct: see lib.rt's head.
 #[tactic(auto, using(crate::proofs::Laws::moved))]
 pub fn tidy(s: &mut [u64], n: usize)
     requires { gap_words * n ≤ length s.old }

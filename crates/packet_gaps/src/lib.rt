@@ -1,6 +1,7 @@
 // 001: the gaps, numbers that have not come, each with its NACK state, in counted places of a lent slice. The session keeps their count
 // n. Where a function wants `GapsIn`, `check::tidy` made it so.
-// Stays: s and n are two parameters, since the caller lends the slice, and the session, which it lends apart, has the count.
+// Why no struct of s and n: it would be lent anew at each step, and of a slice lent to a function that builds a struct the checker knows
+// only the length when that function returns (as of `Held` in crate ffi), so `GapsIn` and the order would not come back with it.
 #![tactic(auto)]
 
 ghost use Rattle.std.specs.Prelude.{◌≡◌, true, ◌++◌, [], map, ◌+◌, ◌*◌, ◌-◌, ◌≤◌, ◌<◌, length, take, drop};
@@ -31,6 +32,7 @@ pub struct Gap {
 }
 
 // The gap at place i.
+// Stays: the caller lends the words (the C interface); a type for a place in them would be made of these two at each call.
 #[tactic(auto, using(crate::proofs::Laws::placed))]
 pub fn read(s: &[u64], i: usize) -> Gap
     requires { gap_words * i + gap_words ≤ length s.now }
@@ -45,6 +47,7 @@ pub fn read(s: &[u64], i: usize) -> Gap
     }
 }
 
+// Stays: the caller lends the words (the C interface); a type for a place in them would be made of these two at each call.
 #[tactic(auto, unfolding(model::specs::Storage::gap_words_of))]
 fn write(s: &mut [u64], i: usize, g: Gap)
     requires { gap_words * i + gap_words ≤ length s.old }
@@ -55,7 +58,8 @@ fn write(s: &mut [u64], i: usize, g: Gap)
 }
 
 // Whether x is the number of a gap.
-// Stays: the caller lends the words (the C interface), and the session has the count.
+// Stays: the contract is of `gaps_of s n`; of a part `&s[..4 * n]` each caller would have to show that its records are those of s.
+// That the numbers ascend is asked for, since check 16 is asked of sessions that C hands over damaged.
 #[tactic(auto, using(crate::proofs::Laws::placed))]
 pub fn contains(s: &[u64], n: usize, x: ExtendedSequenceNumber) -> bool
     requires n_in_bounds { gap_words * n ≤ length s.now }
@@ -74,7 +78,8 @@ fn nacked_once(g: Gap) -> Option<u64>
 }
 
 // Takes the gap of the number x out; its answer is the instant of the NACK, if there was just one.
-// Stays: the caller lends the words (the C interface), and the session has the count.
+// Stays: the contract is of all of s, zeros behind the records too, so the n records alone would not do; no struct: see the file's head.
+// `GapsIn` and the order are asked for, since they hold once check 16 has passed a session that C may hand over damaged.
 #[tactic(auto, using(crate::proofs::Laws::placed))]
 pub fn remove(s: &mut [u64], n: usize, x: ExtendedSequenceNumber) -> Option<u64>
     requires gaps_in { GapsIn s.old n }
@@ -98,7 +103,8 @@ pub fn clear(s: &mut [u64])
 }
 
 // Opens a gap for each number between h and x, detected at `at`.
-// Stays: the caller lends the words (the C interface), and the session has the count.
+// Stays: the contract is of all of s, zeros behind the records too, so the n records alone would not do; no struct: see the file's head.
+// `GapsIn` is asked for, since it holds once check 16 has passed a session that C may hand over damaged.
 #[tactic(auto, using(crate::proofs::Opening::opening), unfolding(model::specs::Rules::fresh))]
 pub fn open_between(
     s: &mut [u64],
@@ -112,21 +118,21 @@ pub fn open_between(
     requires h_in_bounds { gap_words * (n + (x.0 - (h.0 + 1))) ≤ length s.old }
     ensures { s.new ≡ laid gap_words_of (length s.old) (gaps_of s.old n ++ map (fresh at) (between h.0 x.0)) }
 {
-    let mut i = n;
-    for number in h.0 + 1..x.0 {
+    let first = h.0 + 1;
+    for i in 0..(x.0 - first) as usize {
         let g = Gap {
-            number: ExtendedSequenceNumber(number),
+            number: ExtendedSequenceNumber(first + i as u64),
             detected: at,
             nacks: 0,
             nacked_at: 0,
         };
-        write(s, i, g);
-        i += 1;
+        write(s, n + i, g);
     }
 }
 
 // How many gaps have a number below x. They stand at the front.
-// Stays: the caller lends the words (the C interface), and the session has the count.
+// Stays: the contract is of `gaps_of s n`; of a part `&s[..4 * n]` each caller would have to show that its records are those of s.
+// That the numbers ascend is asked for, since check 16 is asked of sessions that C hands over damaged.
 #[tactic(auto, using(crate::proofs::Laws::placed))]
 pub fn count_below(s: &[u64], n: usize, x: ExtendedSequenceNumber) -> usize
     requires n_in_bounds { gap_words * n ≤ length s.now }
@@ -137,7 +143,8 @@ pub fn count_below(s: &[u64], n: usize, x: ExtendedSequenceNumber) -> usize
 }
 
 // Takes the first k gaps out.
-// Stays: the caller lends the words (the C interface), and the session has the count.
+// Stays: the contract is of all of s, zeros behind the records too, so the n records alone would not do; no struct: see the file's head.
+// `GapsIn` is asked for, since it holds once check 16 has passed a session that C may hand over damaged.
 #[tactic(auto, using(crate::proofs::Laws::moved))]
 pub fn drain(s: &mut [u64], n: usize, k: usize)
     requires gaps_in { GapsIn s.old n }

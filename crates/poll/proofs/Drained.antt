@@ -31,7 +31,7 @@ use Rattle.poll.specs.Steps.{gaps_in, front, Handing, Leaves, drained_session}
 use Rattle.storage.proofs.Checking.{Lengths}
 use Rattle.storage.proofs.Settled.{holding}
 use Rattle.poll.proofs.Holding.{leaves_write, lost_in}
-use Rattle.poll.proofs.Parted.{given-up-le, not-given-up, length-not-given-up}
+use Rattle.poll.proofs.Parted.{given-up-le, given-few, not-given-up, length-not-given-up}
 
 -- numbers are given up where there is no delay, so that the loss that they count for does not change it
 pub delay-drained : (now : ℕ) (q : Queue) (gaps : List Gap) → delay_of (drained_queue now q gaps) ≡ delay_of q
@@ -87,6 +87,10 @@ module _ (now : ℕ) (m : Stored) (h : Settled m) where
   pub drained-written : drained_stored ≡ write (drained now (parse m))
   unfolding drained lose parse
   drained-written = leaves_write m.storage (drained now (parse m)) (holding m h).lengths drained_stored drained_leaves
+
+  -- what `drain` asks, where the first k gaps are given up
+  pub drain_fits : (k : ℕ) → k ≡ length (given_up_of set before) → (m.session.queue.counters.lost + k < 2 ^ 64) × GapsIn m.storage.gaps m.session.gaps × (k ≤ m.session.gaps)
+  drain_fits k e = (omega (arith, given-few m k e, lost_in m (holding m h).checked), (holding m h).gaps_in, given-few m k e)
 
   -- what `drain` leaves
   module _ (after : Stored) (w : after ≡ write (drained now (parse m))) where

@@ -39,9 +39,9 @@ use Rattle.poll.specs.Answers.{count_answer}
 use Rattle.poll.specs.Steps.{gaps_in, Leaves, drained_session}
 use Rattle.poll.specs.Nacking.{Judging, found_in, judged_by, later_refusal, nack_refusal, drained_by}
 use Rattle.poll.specs.declared.nack.Found.{Found}
-use Rattle.storage.proofs.Settled.{assoc, accepted-is, passed_16, checked, holding, settled_of, settings_in, instants}
-use Rattle.poll.proofs.Early.{refused_by, is-room, is_timely}
-use Rattle.poll.proofs.Holding.{leaves_write, lost_in}
+use Rattle.storage.proofs.Settled.{assoc, accepted-is, refused_said, passed_16, checked, holding, settled_of, settings_in, instants}
+use Rattle.poll.proofs.Early.{is-room, is_timely}
+use Rattle.poll.proofs.Holding.{leaves_write}
 use Rattle.poll.proofs.Parted.{not-given-up}
 use Rattle.poll.proofs.Drained.{after_is, after_gaps, after-ascend, after_held, after_fewer, after-long}
 
@@ -128,7 +128,6 @@ judging m h =
     record {
       room = k.room.gaps;
       small = timings-small m.session.queue _ refl (settings_in m k) k.sound.queue_in.rtx_in.rtt_in;
-      lost_fits = lost_in m k;
       instants = instants m k;
     }
 
@@ -233,7 +232,7 @@ module _ (k : Call) (places now : ℕ) (m : Stored) (same : refusal k m ≡ nack
       → (m' : Stored) → m' ≡ drained_by (nack_refusal places now m) now m → Does k m (said f r) m' (output_of k)
   begin_refused f r e p h m' em =
       let n = judged_err (timings_of q) (nack_refusal places now m) e h in
-      rw (em, ← left_alone now (nack_refusal places now m) m e n) (refused_by f r e p k m (n ∙ sym same))
+      rw (em, ← left_alone now (nack_refusal places now m) m e n) (refused_said f k m r e p (n ∙ sym same))
 
   module _ (t : NackTimings) (h : Ok t ≡ judged_by (nack_refusal places now m) (timings_of q)) where
     z : nack_refusal places now m ≡ 0

@@ -1,5 +1,5 @@
 -- The steps of a `poll_nack`, in a list or on the wire: what its checks answer, what they pass, and what is left for the NACKs.
-use Rattle.std.specs.Prelude.{◌≡◌, true, cond, ℕ, ◌+◌, ◌*◌, ◌≤◌, ◌<◌, ◌^◌, eqb, length, Result, Ok, Err}
+use Rattle.std.specs.Prelude.{◌≡◌, true, cond, ℕ, ◌*◌, ◌≤◌, eqb, length, Result, Ok, Err}
 use Rattle.durations.specs.Seconds.{largest}
 use Rattle.refusals.specs.Refusals.{or_else}
 use Rattle.model.specs.Lists.{every?}
@@ -15,7 +15,6 @@ use Rattle.poll.specs.declared.nack.Found.{Found}
 pub record Judging (m : Stored) : Type 0 where
   pub room : gap_words * m.session.gaps ≤ length m.storage.gaps
   pub small : Small (timings_of m.session.queue)
-  pub lost_fits : m.session.queue.counters.lost + m.session.gaps < 2 ^ 64
   pub instants : m.session.queue.clock ≤ largest → every? instants_fit (gaps_in m) ≡ true
 
 unfoldable pub found_in : Stored → Found

@@ -1,20 +1,15 @@
 // `poll` (000; 01, "Hand-out"): the gaps given up, then the front entry, if its time has come.
 #![tactic(auto)]
 
-ghost use Rattle.std.specs.Prelude.{◌≡◌, true, List, [], ◌∷◌, ℕ, ◌+◌, ◌*◌, ◌≤◌, ◌<◌, ◌^◌, T, length, take, unwrap_or};
+ghost use Rattle.std.specs.Prelude.{◌≡◌, true, List, [], ◌∷◌, ℕ, ◌+◌, ◌*◌, ◌≤◌, ◌<◌, ◌^◌, length, unwrap_or};
 ghost use Rattle.words.specs.Blocks.{laid};
 ghost use Rattle.words.specs.Order.{ascends};
 ghost use Rattle.words.specs.Words.{over};
-ghost use Rattle.durations.specs.Seconds.{largest};
 ghost use Rattle.refusals.specs.Refusals.{refusal_of, or_else};
-ghost use Rattle.packet_loss.specs.Loss.{loss_in_range};
-ghost use Rattle.rtx_state.specs.RoundTrip.{opt_rtt_in_range};
-ghost use Rattle.config.specs.Valid.{longest, settings_valid};
 ghost use Rattle.model.specs.Records.{gap_numbers};
 ghost use Rattle.model.specs.Rules.{max_lost_nacked, remembered_after, given_up_of, lost_below_of};
 ghost use Rattle.model.specs.Poll.{delay_of, drained, hands_out, hand_out};
-ghost use Rattle.model.specs.Valid.{last_sound};
-ghost use Rattle.model.specs.Storage.{entry_words, payload_bytes, gap_words, remembered_words, remembered_words_of, entries_of, gaps_of, remembered_of, parse, write};
+ghost use Rattle.model.specs.Storage.{payload_bytes, gap_words, remembered_words, remembered_words_of, gaps_of, remembered_of, parse, write};
 ghost use Rattle.lost_nacked.specs.Remembered.{RememberedIn};
 ghost use Rattle.model.specs.Calls as Calls;
 ghost use Rattle.model.specs.Table as Table;
@@ -86,6 +81,7 @@ pub(crate) fn check_output_and_clock(
 }
 
 // How many gaps at the front are given up.
+// Stays: a type of a session that check 16 passed would be made anew after each write (`settle`, `drain`), for a clause of one line.
 pub(crate) fn given_up(q: &Held) -> usize
     requires { gap_words * q.now.session.gaps ≤ length q.now.gaps.now }
     ensures { result ≡ length (given_up_of q.now.session.queue.config.settings (gaps_in (held q.now))) }
@@ -100,6 +96,7 @@ pub(crate) fn given_up(q: &Held) -> usize
 }
 
 // The clock, then `drain_lost`: the gaps that are given up go.
+// Stays: a type that says settled would not hold here between the gaps' write and the session's.
 pub(crate) fn drain(q: &mut Held, given: usize, instant: u64)
     requires settled { Settled (held q.old) }
     requires given_value { given ≡ length (given_up_of q.old.session.queue.config.settings (gaps_in (held q.old))) }
@@ -117,6 +114,7 @@ pub(crate) fn drain(q: &mut Held, given: usize, instant: u64)
 }
 
 // How many gaps become lost as the entry of the number goes out.
+// Stays: a type of a session that check 16 passed would be made anew after each write (`settle`, `drain`), for a clause of one line.
 fn lost_below(q: &Held, number: ExtendedSequenceNumber) -> usize
     requires gaps_room { gap_words * q.now.session.gaps ≤ length q.now.gaps.now }
     requires ascend { ascends (gap_numbers (gaps_in (held q.now))) ≡ true }
@@ -131,7 +129,8 @@ fn lost_below(q: &Held, number: ExtendedSequenceNumber) -> usize
 }
 
 // Remembers the first `lost` gaps, where the session has RTX; the answer is how many are remembered then.
-// Stays: the caller lends the words (the C interface), and the session has the count.
+// Stays: with `q: &mut Held` it would lend `q.remembered` and read `q.gaps` in one call, for which the borrow checker has no rule yet;
+// and `RememberedIn` holds at this step alone, of a session that C may hand over damaged.
 fn remember(q: Queue, remembered: &mut [u64], n: usize, gaps: &[u64], lost: usize) -> usize
     requires remembered_in { RememberedIn remembered.old n }
     requires n_bound { (n ≤ max_lost_nacked) × (remembered_words * max_lost_nacked ≤ length remembered.old) }
@@ -147,11 +146,13 @@ fn remember(q: Queue, remembered: &mut [u64], n: usize, gaps: &[u64], lost: usiz
 }
 
 // Whether the front entry goes out, by the queue's delay.
+#[tactic(auto, using(session::proofs::Bounds::delay_bound))]
 fn goes_out(q: &Held, delay: u64, instant: u64) -> bool
     requires polling { Polling instant (held q.now) }
-    requires delay_value { (delay ≡ delay_of q.now.session.queue) × (delay ≤ longest) }
+    requires delay_value { delay ≡ delay_of q.now.session.queue }
     ensures { result ≡ hands_out instant q.now.session.queue (entries_in (held q.now)) }
 {
+    // With `&&` the first entry would be read within the test.
     if q.session.entries == 0 {
         return false;
     }
@@ -160,6 +161,7 @@ fn goes_out(q: &Held, delay: u64, instant: u64) -> bool
 }
 
 // What a `poll` at this instant does.
+// Stays: the instant is one call's; a type of session and instant would lend the session on, for this function alone.
 fn effect_at(q: &Held, instant: u64) -> Effect
     requires { Polling instant (held q.now) }
     ensures { result ≡ effect_for instant (parse (held q.now)) }
@@ -201,6 +203,7 @@ fn packet(q: Queue, delay: u64, e: Entry) -> HandedOut
 }
 
 // The front entry goes out, and the first `lost` gaps, those below it in a sorted queue, are lost.
+// Stays: C lends the output, which may be longer; an array of 320 bytes would have to be cut from it, and the rest would have no name.
 fn hand_out(q: &mut Held, lost: usize, delay: u64, out: &mut [u8]) -> HandedOut
     requires handing { Handing lost delay (held q.old) }
     requires in_bounds { payload_bytes ≤ length out.old }
@@ -212,7 +215,7 @@ fn hand_out(q: &mut Held, lost: usize, delay: u64, out: &mut [u8]) -> HandedOut
     let s = q.session;
     let queue = s.queue;
     let e = entries::pop_front(q.entries, q.payloads, s.entries, out);
-    // Stays: a borrow of its own, since the borrow checker has no rule yet for `q.gaps` read beside `q.remembered` in one call.
+    // A borrow of its own, since the borrow checker has no rule yet for `q.gaps` read beside `q.remembered` in one call.
     let gaps = &mut *q.gaps;
     let remembered = remember(queue, q.remembered, s.remembered, gaps, lost);
     packet_gaps::drain(gaps, s.gaps, lost);
@@ -226,6 +229,8 @@ fn hand_out(q: &mut Held, lost: usize, delay: u64, out: &mut [u8]) -> HandedOut
 }
 
 // What `poll` does to a settled session.
+// Stays: the instant is one call's; a type that says settled would not hold between `drain` and `hand_out`; and C lends an output
+// that may be longer than the bound.
 fn accept(q: &mut Held, instant: u64, effect: Effect, out: &mut [u8]) -> Option<HandedOut>
     requires settled { Settled (held q.old) }
     requires effect_value { effect ≡ effect_for instant (parse (held q.old)) }
@@ -239,6 +244,8 @@ fn accept(q: &mut Held, instant: u64, effect: Effect, out: &mut [u8]) -> Option<
 }
 
 // Hands out the front entry, if its time has come: its payload goes to the front of `out`.
+// Stays: the session is lent and outlives the call, and the instant is this call's alone (the C interface has both as parameters).
+#[tactic(auto, using(storage::proofs::Settled::passed_16))]
 pub fn poll(q: &mut Held, now: u64, out: &mut [u8]) -> Result<Option<HandedOut>, Refusal>
     ensures same_slices { SameSlices q.old q.new }
     ensures does { Does (Calls.poll now out.old) (held q.old) (Answers.poll_answer result) (held q.new) out.new }

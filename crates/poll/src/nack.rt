@@ -37,6 +37,7 @@ fn check_count(q: &Held, found: Found, instant: u64) -> Result<(), Refusal>
 }
 
 // 15, 8, then 14 of a `poll_nack` with an output of so many places, in a session that check 16 passes.
+// Stays: instant and places are one call's; a type of them would be made at each call and taken apart by the first check.
 fn judge(q: &Held, instant: u64, places: usize) -> Result<Found, Refusal>
     requires { Judging (held q.now) }
     ensures { numbered result ≡ judged_by (later_refusal places instant (held q.now)) (found_in (held q.now)) }
@@ -54,6 +55,8 @@ fn judge(q: &Held, instant: u64, places: usize) -> Result<Found, Refusal>
 
 // The steps that a list and the wire share: check 16, the other checks, and, where none catches the call, zeros in the unused places, the
 // clock and `drain_lost`. The answer is the timings by which the gaps that are left are due.
+// Stays: instant and places are one call's; a type of them would be made at each call and taken apart by the first check.
+#[tactic(auto, using(storage::proofs::Settled::passed_16))]
 pub(crate) fn begin(q: &mut Held, instant: u64, places: usize) -> Result<NackTimings, Refusal>
     ensures same_slices { SameSlices q.old q.new }
     ensures value { numbered result ≡ judged_by (nack_refusal places instant (held q.old)) (timings_of q.old.session.queue) }
@@ -67,6 +70,7 @@ pub(crate) fn begin(q: &mut Held, instant: u64, places: usize) -> Result<NackTim
 }
 
 // NACKs each gap that is due: their numbers go to the front of `out`, and the answer is how many they are.
+// Stays: the session is lent and outlives the call, and the instant is this call's alone (the C interface has both as parameters).
 pub fn poll_nack(q: &mut Held, now: u64, out: &mut [u16]) -> Result<Option<usize>, Refusal>
     ensures same_slices { SameSlices q.old q.new }
     ensures does { Does (Calls.poll_nack now out.old) (held q.old) (Answers.nack_answer result) (held q.new) out.new }

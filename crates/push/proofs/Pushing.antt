@@ -7,10 +7,9 @@ use native.Mathlib.Omega.{arith}
 use lib.ListN.{length}
 use Rattle.std.specs.Prelude.{Result, Ok, Err, Some, IsErrAnd}
 use Rattle.std.proofs.lemmas.Result.{err_from_is_err_and}
-use borrow.Author.Tests.{eqb-false}
 use Rattle.refusals.specs.declared.Refusal.{Refusal}
 use Rattle.refusals.specs.Refusals.{number, refuse_if, or_else}
-use Rattle.refusals.proofs.Laws.{or_else_second, or_else_refused, or_else-none, number_refuses}
+use Rattle.refusals.proofs.Laws.{or_else_second, or_else_refused, or_else-none, number-nonzero}
 use Rattle.durations.specs.Seconds.{largest}
 use Rattle.rtp_packet.specs.declared.RtpPacket.{RtpPacket}
 use Rattle.rtp_packet.specs.Header.{between, payload_of}
@@ -18,7 +17,7 @@ use Rattle.rtp_packet.specs.Datagram.{largest_payload, datagram_refusal, packet_
 use Rattle.rtp_packet.proofs.Bounds.{payload_of-packet, payload-fits}
 use Rattle.model.specs.Records.{Entry}
 use Rattle.model.specs.Rules.{Place}
-use Rattle.model.specs.Push.{Fate, extended_entry, media_entry_of, media_place, after_placed, after_media}
+use Rattle.model.specs.Push.{Fate, extended_entry, media_entry_of, media_place, after_media}
 use Rattle.model.specs.Storage.{Stored, arrival_word, parse, write}
 use Rattle.model.specs.Calls as Calls
 use Rattle.model.specs.Calls.{Answer, media, placed_answer, answered, taken, output_of, output_after}
@@ -33,14 +32,12 @@ use Rattle.session.specs.Place.{place}
 use Rattle.storage.specs.Settled.{Settled}
 use Rattle.storage.proofs.Settled.{checked, refused-is, accepted-is}
 use Rattle.push.specs.declared.Found.{Found}
-use Rattle.push.specs.Media.{Fit, Readable, Read, FoundIn, JudgedAs}
+use Rattle.push.specs.declared.Accepted.{Accepted}
+use Rattle.push.specs.Media.{Readable, Read, FoundIn, JudgedAs, Fit, placed_by}
 
 -- what `?` passes on is the refusal that it was given
 pub passed : {A : Type 0} (r : Result A Refusal) (e : Refusal) → IsErrAnd r (λ x. x ≡ e) → r ≡ Err e
 passed r e h = let p = err_from_is_err_and r h in rw (p.1, p.2) refl
-
-pub refuses : (e : Refusal) → number e ≡ 0 → ⊥
-refuses e = eqb-false (number e) 0 (number_refuses e)
 
 -- what the session says of the lists is what the state has
 pub refusal-at : (m : Stored) (e : Row.Entry) (payload : List ℕ) (p : Place) → e.size ≡ length payload
@@ -69,7 +66,7 @@ pub readable : (m : Stored) → session_sound m ≡ true → Readable m.session 
 unfolding parse
 readable m h =
     let k = checked m h in
-    record { bytes = k.sound.queue_in.counters_in.bytes_fit; few = k.counts.gaps; room = k.room.gaps; ascend = k.lists.gaps-ascend }
+    record { few = k.counts.gaps; room = k.room.gaps; ascend = k.lists.gaps-ascend }
 
 -- ---- judge
 
@@ -118,7 +115,13 @@ module _ (instant : ℕ) (d : List ℕ) (m : Stored) where
 
 -- ---- apply
 
-module _ (f : Found) (d : List ℕ) (m : Stored) (payload : List ℕ) (part : payload ≡ payload_of d) (h : FoundIn f d (parse m)) where
+module _ (a : Accepted) (d : List ℕ) (m : Stored) (part : a.payload.now ≡ payload_of d) (h : FoundIn a.found d (parse m)) where
+  abbrev f : Found
+  f = a.found
+
+  abbrev payload : List ℕ
+  payload = a.payload.now
+
   becomes_with : entry f.entry payload ≡ media_entry_of f.instant d (parse m).queue
   becomes_with = ap (entry f.entry) part ∙ h.becomes
 
@@ -130,7 +133,7 @@ module _ (f : Found) (d : List ℕ) (m : Stored) (payload : List ℕ) (part : pa
       ap (λ (x : Entry). refusal_at x (place f.place) (parse m)) becomes_with
       ∙ ap (λ (q : Place). refusal_at media_entry q (parse m)) (h.stands ∙ ap (λ (x : Entry). media_place (parse m) x.number) h.becomes)
 
-  pub fit_of : Settled m → Fit f.entry payload f.place m
+  pub fit_of : Settled m → Fit a m
   unfolding media_refusal
   fit_of s =
       record {
@@ -140,11 +143,11 @@ module _ (f : Found) (d : List ℕ) (m : Stored) (payload : List ℕ) (part : pa
         incoming = rw part h.incoming;
       }
 
-  pub answered_as : (a : Answer) → a ≡ placed_answer (place f.place) → a ≡ answered (media f.instant d) (parse m)
+  pub answered_as : (answer : Answer) → answer ≡ placed_answer (place f.place) → answer ≡ answered (media f.instant d) (parse m)
   unfolding answered
-  answered_as a e = e ∙ rw (h.stands, ← h.becomes)
+  answered_as answer e = e ∙ rw (h.stands, ← h.becomes)
 
-  pub taken_as : (after : Stored) → after ≡ write (after_placed f.instant (entry f.entry payload) (place f.place) (parse m)) → after ≡ write (taken (media f.instant d) (parse m))
+  pub taken_as : (after : Stored) → after ≡ placed_by a m → after ≡ write (taken (media f.instant d) (parse m))
   unfolding taken after_media
   taken_as after e = e ∙ rw (h.stands, part, ← h.becomes)
 
@@ -153,16 +156,16 @@ module _ (f : Found) (d : List ℕ) (m : Stored) (payload : List ℕ) (part : pa
 module _ (instant : ℕ) (d : List ℕ) (m : Stored) where
   pub push_damaged : (e : Refusal) → number e ≡ session_refusal m → did (media instant d) m ≡ record { answer = Calls.refused (number e); stored = m; output = [] }
   unfolding output_of refusal
-  push_damaged e h = refused-is (media instant d) m (number e) (or_else_refused e _ h) (refuses e)
+  push_damaged e h = refused-is (media instant d) m (number e) (or_else_refused e _ h) (number-nonzero e)
 
   module _ (h : session_sound m ≡ true) where
     none_of_16 : refusal (media instant d) m ≡ media_refusal instant d (parse m)
     unfolding refusal call_refusal session_refusal refuse_if or_else
     none_of_16 = rw h
 
-    pub push-refused : (e : Refusal) → JudgedAs instant d (parse m) (Err e) → did (media instant d) m ≡ record { answer = Calls.refused (number e); stored = m; output = [] }
-    unfolding output_of JudgedAs
-    push-refused e j = refused-is (media instant d) m (number e) (sym (none_of_16 ∙ j)) (refuses e)
+    pub judged_refused : (e : Refusal) → JudgedAs instant d (parse m) (Err e) → number e ≡ refusal (media instant d) m
+    unfolding JudgedAs
+    judged_refused e j = sym (none_of_16 ∙ j)
 
     pub push_applied : (f : Found) → JudgedAs instant d (parse m) (Ok f) → (m2 after : Stored) (a : Answer) → parse m2 ≡ parse m → a ≡ answered (media f.instant d) (parse m2) → after ≡ write (taken (media f.instant d) (parse m2))
         → did (media instant d) m ≡ record { answer = a; stored = after; output = [] }

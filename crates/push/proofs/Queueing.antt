@@ -34,6 +34,7 @@ use Rattle.entries.specs.Entries.{entry, first_number}
 use Rattle.session.specs.declared.push.Place as Code
 use Rattle.session.specs.Place.{place}
 use Rattle.model.specs.Contract.{stored}
+use Rattle.push.specs.declared.Accepted.{Accepted}
 use Rattle.push.specs.Media.{Takes, Fit}
 use Rattle.storage.proofs.Settled.{Ready, holding}
 use Rattle.push.proofs.Placing.{length-opened}
@@ -81,11 +82,23 @@ module _ (s : Session) (e : Row.Entry) (p : Code.Place) where
 
 -- ---- an accepted packet
 
-module _ (instant : ℕ) (e : Row.Entry) (payload : List ℕ) (p : Code.Place) (m : Stored) (f : Fit e payload p m) where
+module _ (a : Accepted) (m : Stored) (f : Fit a m) where
+  abbrev instant : ℕ
+  instant = a.found.instant
+
+  abbrev e : Row.Entry
+  e = a.found.entry
+
+  abbrev payload : List ℕ
+  payload = a.payload.now
+
+  abbrev p : Code.Place
+  p = a.found.place
+
   abbrev x : Entry
   x = entry e payload
 
-  pub ready_for : Ready m m.storage.entries m.storage.payloads m.storage.gaps m.storage.remembered
+  ready_for : Ready m m.storage.entries m.storage.payloads m.storage.gaps m.storage.remembered
   ready_for = holding m f.settled
 
   abbrev raises : List ℕ
@@ -121,7 +134,7 @@ module _ (instant : ℕ) (e : Row.Entry) (payload : List ℕ) (p : Code.Place) (
         let l = ready_for.checked.sound.lists_in in
         is_true _ (ascends_of_rising (λ (g : Gap). g.number) _ (rising_after instant stands l.gaps_rise (each_imp (λ g k. k.under) l.gaps_in)))
 
-    pub takes : Takes m.storage.gaps m.session.gaps e.number.0 (place p)
+    takes : Takes m.storage.gaps m.session.gaps e.number.0 (place p)
     unfolding parse Takes too_many_gaps
     takes = go stands few-gaps
       where
@@ -146,6 +159,10 @@ module _ (instant : ℕ) (e : Row.Entry) (payload : List ℕ) (p : Code.Place) (
         go (is_far at lt) t = tt
         go (is-gap h) t = is_true _ h
         go is-other t = tt
+
+    -- what `gaps_after` asks of them
+    pub opens : GapsIn m.storage.gaps m.session.gaps × (ascends (gap_numbers (gaps_of m.storage.gaps m.session.gaps)) ≡ true) × Takes m.storage.gaps m.session.gaps e.number.0 (place p)
+    opens = (ready_for.gaps_in, ready_for.gaps-ascend, takes)
 
     abbrev after : State
     after = after_queued instant x (place p) (parse m)

@@ -21,7 +21,6 @@ use Rattle.model.specs.Table.{refusal, call_refusal, original_number_refusal, re
 use Rattle.model.specs.Did.{Done, did, accepted, turned_back}
 use Rattle.push.specs.Repair.{did_fate, did_repair, did_original}
 use Rattle.storage.proofs.Settled.{assoc, refused-is}
-use Rattle.push.proofs.Pushing.{refuses}
 
 -- ---- 10, then 11
 
@@ -56,14 +55,12 @@ module _ (instant : ℕ) (d : List ℕ) (m : Stored) (r : ℕ) (e : r ≡ or_els
   unfolding refusal call_refusal repair_refusal parse
   chain = assoc (session_refusal m) _ _ ∙ assoc _ (rtx_refusal m.session.queue) _ ∙ rw (← e)
 
-  pub repair_early : (k : Refusal) → number k ≡ r → did (repair instant d) m ≡ record { answer = Calls.refused (number k); stored = m; output = [] }
-  unfolding output_of
-  repair_early k h = refused-is (repair instant d) m (number k) (or_else_refused k _ h ∙ sym chain) (refuses k)
+  pub repair_early : (k : Refusal) → number k ≡ r → number k ≡ refusal (repair instant d) m
+  repair_early k h = or_else_refused k _ h ∙ sym chain
 
   module _ (z : r ≡ 0) where
-    pub repair_unread : (k : Refusal) → datagram ≡ number k → did (repair instant d) m ≡ record { answer = Calls.refused (number k); stored = m; output = [] }
-    unfolding output_of
-    repair_unread k h = refused-is (repair instant d) m (number k) (or_else_refused k later (sym h) ∙ sym (chain ∙ or_else_second r _ z)) (refuses k)
+    pub repair_unread : (k : Refusal) → datagram ≡ number k → number k ≡ refusal (repair instant d) m
+    repair_unread k h = or_else_refused k later (sym h) ∙ sym (chain ∙ or_else_second r _ z)
 
     reads : datagram ≡ 0 → refusal (repair instant d) m ≡ or_else (original_number_refusal m.session.queue (payload_of d)) (refusal_for (repair_entry d m.session.queue) (repair_fate (parse m) (repair_entry d m.session.queue).number) (parse m))
     reads hk = chain ∙ or_else_second r _ z ∙ or_else_second datagram later hk

@@ -17,8 +17,11 @@ placed Media.Dropped = Calls.dropped
 abbrev pub media_answer : Result Media Refusal → Answer
 media_answer r = said placed r
 
+abbrev pub repaired : Fate → Answer
+repaired f = Calls.repaired (fate f)
+
 abbrev pub repair_answer : Result Fate Refusal → Answer
-repair_answer r = said (λ f. Calls.repaired (fate f)) r
+repair_answer r = said repaired r
 
 -- turned back under the number, unless it is 0
 unfoldable pub unless_refused : ℕ → Stored → Done → Done

@@ -4,27 +4,25 @@ use Rattle.model.specs.Lists.{some?}
 use Rattle.refusals.specs.Refusals.{number}
 use Rattle.refusals.specs.declared.Refusal.{Refusal}
 use Rattle.words.specs.Order.{ascends}
-use Rattle.durations.specs.Seconds.{largest}
 use Rattle.rtp_packet.specs.declared.RtpPacket.{RtpPacket}
 use Rattle.rtp_packet.specs.Header.{payload_of}
 use Rattle.rtp_packet.specs.Datagram.{largest_payload, datagram_refusal, packet_of}
 use Rattle.model.specs.declared.Queue.{Queue}
+use Rattle.model.specs.declared.Received.{Received}
 use Rattle.model.specs.declared.Session.{Session}
 use Rattle.model.specs.Records.{State, gap_numbers}
-use Rattle.model.specs.Rules.{Place, first, near, far, fills, other, is}
-use Rattle.model.specs.Push.{media_entry_of, media_place}
-use Rattle.model.specs.Storage.{Stored, gap_words, gaps_of, parse}
+use Rattle.model.specs.Rules.{Place, first, near, far, fills, other, is, waits}
+use Rattle.model.specs.Push.{media_entry_of, media_place, after_placed}
+use Rattle.model.specs.Storage.{Stored, gap_words, gaps_of, parse, write}
 use Rattle.model.specs.Table.{refusal_at, media_refusal, clock_refusal}
-use Rattle.entries.specs.declared.Entry as Row
 use Rattle.entries.specs.Entries.{entry, Incoming}
-use Rattle.session.specs.declared.push.Place as Code
 use Rattle.session.specs.Place.{place}
 use Rattle.storage.specs.Settled.{Settled}
 use Rattle.push.specs.declared.Found.{Found}
+use Rattle.push.specs.declared.Accepted.{Accepted}
 
 -- what judging a packet asks of the session and its gaps: row 16 gives it
 pub record Readable (s : Session) (gaps : List ℕ) : Type 0 where
-  pub bytes : s.queue.counters.bytes ≤ largest
   pub few : s.gaps ≤ s.queue.config.settings.max_gaps
   pub room : gap_words * s.gaps ≤ length gaps
   pub ascend : ascends (gap_numbers (gaps_of gaps s.gaps)) ≡ true
@@ -57,8 +55,21 @@ Takes words n x fills = some? (is x) (gaps_of words n) ≡ true
 Takes words n x other = Unit {0}
 
 -- the packet is accepted, and the storage settled
-pub record Fit (e : Row.Entry) (payload : List ℕ) (p : Code.Place) (m : Stored) : Type 0 where
+pub record Fit (a : Accepted) (m : Stored) : Type 0 where
   pub settled : Settled m
-  pub stands : place p ≡ media_place (parse m) e.number.0
-  pub accepted : refusal_at (entry e payload) (place p) (parse m) ≡ 0
-  pub incoming : Incoming e payload
+  pub stands : place a.found.place ≡ media_place (parse m) a.found.entry.number.0
+  pub accepted : refusal_at (entry a.found.entry a.payload.now) (place a.found.place) (parse m) ≡ 0
+  pub incoming : Incoming a.found.entry a.payload.now
+
+-- and it is queued
+pub record Waiting (a : Accepted) (m : Stored) : Type 0 where
+  pub fit : Fit a m
+  pub queued : waits (place a.found.place) ≡ true
+
+-- what the queue keeps of it
+abbrev pub received : Accepted → Received
+received a = record { instant = a.found.instant; timestamp = a.found.entry.timestamp; number = a.found.entry.number }
+
+-- what an accepted packet leaves
+abbrev pub placed_by : Accepted → Stored → Stored
+placed_by a m = write (after_placed a.found.instant (entry a.found.entry a.payload.now) (place a.found.place) (parse m))

@@ -8,11 +8,11 @@ use Rattle.model.specs.Storage.{Stored, parse, write}
 use Rattle.model.specs.Calls as Calls
 use Rattle.model.specs.Table.{original_number_refusal, refusal_for}
 use Rattle.model.specs.Did.{Done}
-use Rattle.entries.specs.declared.Entry as Row
 use Rattle.entries.specs.Entries.{entry, Incoming}
 use Rattle.session.specs.declared.rtx.Fate as Code
 use Rattle.session.specs.Place.{fate}
 use Rattle.storage.specs.Settled.{Settled}
+use Rattle.push.specs.declared.rtx.Repair.{Repair}
 use Rattle.push.specs.Answers.{unless_refused}
 
 unfoldable pub did_fate : ℕ → Entry → Fate → Stored → Done
@@ -37,8 +37,12 @@ left_after n None = n
 left_after n (Some i) = n - 1
 
 -- the repair is accepted, and the storage settled
-pub record FitRepair (e : Row.Entry) (payload : List ℕ) (f : Code.Fate) (m : Stored) : Type 0 where
+pub record FitRepair (r : Repair) (f : Code.Fate) (m : Stored) : Type 0 where
   pub settled : Settled m
-  pub meets : fate f ≡ repair_fate (parse m) e.number.0
-  pub accepted : refusal_for (entry e payload) (fate f) (parse m) ≡ 0
-  pub incoming : Incoming e payload
+  pub meets : fate f ≡ repair_fate (parse m) r.entry.number.0
+  pub accepted : refusal_for (entry r.entry r.payload.now) (fate f) (parse m) ≡ 0
+  pub incoming : Incoming r.entry r.payload.now
+
+-- what an accepted repair leaves
+abbrev pub repaired_by : Repair → Code.Fate → Stored → Stored
+repaired_by r f m = write (after_fate r.instant (entry r.entry r.payload.now) (fate f) (parse m))

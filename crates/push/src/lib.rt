@@ -1,13 +1,11 @@
 // `push` (000): a media packet, from the datagram's bytes to its place in the storage.
 #![tactic(auto)]
 
-ghost use Rattle.std.specs.Prelude.{◌≡◌, true, List, [], ℕ, suc, ◌+◌, ◌≤◌, ◌<◌, length, Ok};
+ghost use Rattle.std.specs.Prelude.{◌≡◌, true, List, [], ℕ, suc, ◌+◌, ◌≤◌, ◌<◌, Ok};
 ghost use Rattle.refusals.specs.Refusals.{refusal_of};
 ghost use Rattle.model.specs.Rules as Rules;
 ghost use Rattle.model.specs.Push as Push;
 ghost use Rattle.model.specs.Storage.{parse, write};
-ghost use Rattle.durations.specs.Seconds.{largest};
-ghost use Rattle.rtp_packet.specs.Datagram.{largest_payload};
 ghost use Rattle.model.specs.Calls.{media, placed_answer, answered, taken};
 ghost use Rattle.model.specs.Table.{session_sound, packet_refusal};
 ghost use Rattle.entries.specs.Entries.{entry};
@@ -15,11 +13,11 @@ ghost use Rattle.session.specs.Place as Spec;
 ghost use Rattle.push.specs.Answers.{media_answer};
 ghost use Rattle.model.specs.Contract.{stored, Does};
 ghost use Rattle.storage.specs.Held.{held, SameSlices};
-ghost use Rattle.push.specs.Media.{Fit, Readable, Read, FoundIn, JudgedAs};
+ghost use Rattle.push.specs.Media.{Readable, Read, FoundIn, JudgedAs, Fit, Waiting, received, placed_by};
 ghost use Rattle.storage.specs.Settled.{Settled};
 
 use entries::Entry;
-use model::{Queue, Session};
+use model::{Queue, Received, Session};
 use refusals::Refusal;
 use rtp::SequenceNumber;
 use rtp_packet::RtpPacket;
@@ -43,6 +41,13 @@ pub struct Found {
     pub packet: RtpPacket,
     pub entry: Entry,
     pub place: Place,
+}
+
+// An accepted packet, and its payload.
+#[derive(Clone, Copy)]
+struct Accepted<'a> {
+    found: Found,
+    payload: &'a [u8],
 }
 
 // The entry that a packet becomes, without its payload; the number is the packet's own, or the original one of a repair.
@@ -78,7 +83,7 @@ fn is_full(s: Session) -> bool
 
 // 14, then 12, in a session that check 16 passes.
 fn check_packet(s: Session, e: Entry, place: Place) -> Result<(), Refusal>
-    requires { (s.queue.counters.bytes ≤ largest) × (e.size ≤ largest_payload) × (s.gaps ≤ s.queue.config.settings.max_gaps) }
+    requires { s.gaps ≤ s.queue.config.settings.max_gaps }
     ensures { refusal_of result ≡ packet_refusal s.queue s.entries s.gaps e.timestamp.0 e.number.0 e.size (Spec.place place) }
 {
     let q = s.queue;
@@ -96,79 +101,87 @@ fn check_packet(s: Session, e: Entry, place: Place) -> Result<(), Refusal>
     session::push::check_gaps(settings, s.gaps, e.number, place)
 }
 
-// Queues a packet that finds the queue below its depth.
-fn insert_packet(q: &mut Held, instant: u64, e: Entry, payload: &[u8], place: Place)
-    requires fit { Fit e payload.now place (held q.old) }
-    requires place_value { (Rules.waits (Spec.place place) ≡ true) × (q.old.session.entries < q.old.session.queue.config.settings.max_entries) }
-    ensures same_slices { SameSlices q.old q.new }
-    ensures placed { held q.new ≡ write (Push.after_placed instant (entry e payload.now) (Spec.place place) (parse (held q.old))) }
-{
-    let s = q.session;
-    let size = e.size as u64;
-    let queue = session::push::queued(s.queue, instant, e.timestamp, e.number, size, place);
-    entries::insert(q.entries, q.payloads, s.entries, e, payload);
-    let open = place::gaps_after(q.gaps, s.gaps, place, e.number, instant);
-    q.session = Session {
-        queue,
-        entries: s.entries + 1,
-        gaps: open,
-        ..s
-    };
-}
-
-// Queues a packet that finds the queue at its depth or above: the front one is pushed out, and the gaps below it go.
-fn push_out_packet(q: &mut Held, instant: u64, e: Entry, payload: &[u8], place: Place)
-    requires fit { Fit e payload.now place (held q.old) }
-    requires place_value { (Rules.waits (Spec.place place) ≡ true) × (q.old.session.queue.config.settings.max_entries ≤ q.old.session.entries) }
-    ensures same_slices { SameSlices q.old q.new }
-    ensures placed { held q.new ≡ write (Push.after_placed instant (entry e payload.now) (Spec.place place) (parse (held q.old))) }
-{
-    let s = q.session;
-    let size = e.size as u64;
-    let queued = session::push::queued(s.queue, instant, e.timestamp, e.number, size, place);
-    let front = entries::push_out(q.entries, q.payloads, s.entries, e, payload);
-    let open = place::gaps_after(q.gaps, s.gaps, place, e.number, instant);
-    let left = place::gaps_from(q.gaps, open, front);
-    let queue = session::push::pushed_out(queued, front);
-    q.session = Session {
-        queue,
-        gaps: left,
-        ..s
-    };
-}
-
-// Queues a packet that is accepted.
-#[tactic(auto, using(crate::proofs::Queueing::full_is))]
-fn queue_packet(q: &mut Held, instant: u64, e: Entry, payload: &[u8], place: Place)
-    requires { Fit e payload.now place (held q.old) × (Rules.waits (Spec.place place) ≡ true) }
-    ensures same_slices { SameSlices q.old q.new }
-    ensures placed { held q.new ≡ write (Push.after_placed instant (entry e payload.now) (Spec.place place) (parse (held q.old))) }
-{
-    if is_full(q.session) {
-        push_out_packet(q, instant, e, payload, place);
-    } else {
-        insert_packet(q, instant, e, payload, place);
+impl Accepted<'_> {
+    // Its instant, timestamp and number.
+    fn received(&self) -> Received
+        ensures { result ≡ received self.now }
+    {
+        let f = self.found;
+        Received {
+            instant: f.instant,
+            timestamp: f.entry.timestamp,
+            number: f.entry.number,
+        }
     }
-}
 
-// Drops or queues a packet that is accepted.
-#[tactic(auto, using(crate::proofs::Queueing::dropped_fits, crate::proofs::Queueing::dropped_packet), unfolding(model::specs::Calls::placed_answer))]
-fn place_packet(q: &mut Held, instant: u64, e: Entry, payload: &[u8], place: Place) -> Media
-    requires { Fit e payload.now place (held q.old) }
-    ensures same_slices { SameSlices q.old q.new }
-    ensures answer_value { media_answer (Ok result) ≡ placed_answer (Spec.place place) }
-    ensures left { held q.new ≡ write (Push.after_placed instant (entry e payload.now) (Spec.place place) (parse (held q.old))) }
-{
-    if !session::push::waits(place) {
-        let queue = session::push::dropped(q.session.queue, instant, e.timestamp);
-        q.session.queue = queue;
-        return Media::Dropped;
+    // Queues it below the depth.
+    fn insert(&self, q: &mut Held)
+        requires waiting { Waiting self.now (held q.old) }
+        requires below { q.old.session.entries < q.old.session.queue.config.settings.max_entries }
+        ensures same_slices { SameSlices q.old q.new }
+        ensures placed { held q.new ≡ placed_by self.now (held q.old) }
+    {
+        let s = q.session;
+        let f = self.found;
+        let e = f.entry;
+        let queue = session::push::queued(s.queue, self.received(), e.size as u64, f.place);
+        entries::insert(q.entries, q.payloads, s.entries, e, self.payload);
+        let open = place::gaps_after(q.gaps, s.gaps, f.place, e.number, f.instant);
+        q.session = Session {
+            queue,
+            entries: s.entries + 1,
+            gaps: open,
+            ..s
+        };
     }
-    queue_packet(q, instant, e, payload, place);
-    Media::Queued
+
+    // Queues it at the depth or above: the front one is pushed out, and the gaps below that go.
+    fn push_out(&self, q: &mut Held)
+        requires waiting { Waiting self.now (held q.old) }
+        requires full { q.old.session.queue.config.settings.max_entries ≤ q.old.session.entries }
+        ensures same_slices { SameSlices q.old q.new }
+        ensures placed { held q.new ≡ placed_by self.now (held q.old) }
+    {
+        let s = q.session;
+        let f = self.found;
+        let e = f.entry;
+        let queued = session::push::queued(s.queue, self.received(), e.size as u64, f.place);
+        let front = entries::push_out(q.entries, q.payloads, s.entries, e, self.payload);
+        let open = place::gaps_after(q.gaps, s.gaps, f.place, e.number, f.instant);
+        let left = place::gaps_from(q.gaps, open, front);
+        let queue = session::push::pushed_out(queued, front);
+        q.session = Session {
+            queue,
+            gaps: left,
+            ..s
+        };
+    }
+
+    // Drops it or queues it.
+    #[tactic(auto, using(crate::proofs::Queueing::full_is, crate::proofs::Queueing::dropped_fits, crate::proofs::Queueing::dropped_packet), unfolding(model::specs::Calls::placed_answer))]
+    fn place(&self, q: &mut Held) -> Media
+        requires { Fit self.now (held q.old) }
+        ensures same_slices { SameSlices q.old q.new }
+        ensures answer_value { media_answer (Ok result) ≡ placed_answer (Spec.place self.now.found.place) }
+        ensures placed { held q.new ≡ placed_by self.now (held q.old) }
+    {
+        if !session::push::waits(self.found.place) {
+            let queue = session::push::dropped(q.session.queue, self.received());
+            q.session.queue = queue;
+            return Media::Dropped;
+        }
+        if is_full(q.session) {
+            self.push_out(q);
+        } else {
+            self.insert(q);
+        }
+        Media::Queued
+    }
 }
 
 // 14, then 12, of the packet that the datagram holds; or what was found of it.
+// Stays: instant and datagram are one call's and the session outlives it; a type of the two would be made at each call and taken apart here.
+// And a type that says `Readable` would be made anew after each write to a session, for these two functions.
 fn judge_packet(
     q: &Held,
     instant: u64,
@@ -188,7 +201,7 @@ fn judge_packet(
         packet.sequence_number,
         payload.len(),
     );
-    let place = place::media_place(s.queue, q.gaps, s.gaps, entry.number);
+    let place = place::media_place(q, entry.number);
     check_packet(s, entry, place)?;
     Ok(Found {
         instant,
@@ -199,6 +212,7 @@ fn judge_packet(
 }
 
 // The checks of a media packet after 16, in a datagram that came at this instant. Of the storage the gaps alone are read.
+// Stays: as `judge_packet`.
 pub fn judge(q: &Held, instant: u64, datagram: &[u8]) -> Result<Found, Refusal>
     requires { Readable q.now.session q.now.gaps.now }
     ensures { (entries payloads remembered : List ℕ) → JudgedAs instant datagram.now (parse (stored q.now.session entries payloads q.now.gaps.now remembered)) result }
@@ -211,6 +225,7 @@ pub fn judge(q: &Held, instant: u64, datagram: &[u8]) -> Result<Found, Refusal>
 }
 
 // What an accepted packet makes of the session, in storage that is settled. It cannot refuse.
+// Stays: a type that says settled would not hold between the writes to entries, gaps and session that this makes.
 pub fn apply(q: &mut Held, found: Found, datagram: &[u8]) -> Media
     requires settled { Settled (held q.old) }
     requires found_in { FoundIn found datagram.now (parse (held q.old)) }
@@ -219,10 +234,12 @@ pub fn apply(q: &mut Held, found: Found, datagram: &[u8]) -> Media
     ensures left { held q.new ≡ write (taken (media found.instant datagram.now) (parse (held q.old))) }
 {
     let payload = rtp_packet::payload(datagram, found.packet);
-    place_packet(q, found.instant, found.entry, payload, found.place)
+    let accepted = Accepted { found, payload };
+    accepted.place(q)
 }
 
 // A media packet in a session that check 16 passes: judge, settle, apply.
+// Stays: instant and datagram are one call's, as of `judge`; and a type that says sound would not hold of the session that `settle` changes here.
 pub fn push_checked(q: &mut Held, instant: u64, datagram: &[u8]) -> Result<Media, Refusal>
     requires { session_sound (held q.old) ≡ true }
     ensures same_slices { SameSlices q.old q.new }
@@ -234,6 +251,7 @@ pub fn push_checked(q: &mut Held, instant: u64, datagram: &[u8]) -> Result<Media
 }
 
 // The same where zeros stand in the unused places already: judge, apply.
+// Stays: instant and datagram are one call's, as of `judge`; and a type that says settled would not hold within `apply`.
 pub fn push_settled(q: &mut Held, instant: u64, datagram: &[u8]) -> Result<Media, Refusal>
     requires { Settled (held q.old) }
     ensures same_slices { SameSlices q.old q.new }
@@ -244,6 +262,7 @@ pub fn push_settled(q: &mut Held, instant: u64, datagram: &[u8]) -> Result<Media
 }
 
 // A media packet, in a datagram that came at this instant.
+// Stays: the session is lent and outlives the call, and the instant is this call's alone (the C interface has both as parameters).
 #[tactic(auto, using(storage::proofs::Settled::passed_16, crate::proofs::Pushing::push_damaged))]
 pub fn push(q: &mut Held, now: u64, datagram: &[u8]) -> Result<Media, Refusal>
     ensures same_slices { SameSlices q.old q.new }

@@ -8,70 +8,56 @@ ghost use Rattle.model.specs.Push as Push;
 ghost use Rattle.model.specs.Storage.{gap_words, gap_words_of, gaps_of};
 ghost use Rattle.packet_gaps.specs.Gaps.{GapsIn};
 ghost use Rattle.session.specs.Place as Spec;
-ghost use Rattle.push.specs.Media.{Takes};
+ghost use Rattle.push.specs.Media.{Readable, Takes};
 
-use model::{Queue, Received};
 use rtp::ExtendedSequenceNumber;
 use session::push::Place;
+use storage::Held;
 
 // 001's MAX_GAP_SIZE.
 const MAX_GAP_SIZE: u64 = 1000;
 
 // Where the number x stands, after the highest so far, h.
-// Stays: the caller lends the words (the C interface), and the session has the count.
-#[tactic(auto, unfolding(session::specs::Place::place, model::specs::Rules::place_of))]
-fn place_after(
-    h: ExtendedSequenceNumber,
-    gaps: &[u64],
-    n: usize,
-    x: ExtendedSequenceNumber,
-) -> Place
-    requires n_in_bounds { gap_words * n ≤ length gaps.now }
-    requires n_value { ascends (Records.gap_numbers (gaps_of gaps.now n)) ≡ true }
-    ensures { Spec.place result ≡ Rules.place_of (Some h.0) (gaps_of gaps.now n) x.0 }
+// Stays: a type of a session that check 16 passed would be made anew after each write (`settle`, `apply`), for a clause of one line; and
+// with the number it would be one more, made for this call.
+#[tactic(auto, using(rtp::proofs::Order::less), unfolding(session::specs::Place::place, model::specs::Rules::place_of))]
+fn place_after(h: ExtendedSequenceNumber, q: &Held, x: ExtendedSequenceNumber) -> Place
+    requires { Readable q.now.session q.now.gaps.now }
+    ensures { Spec.place result ≡ Rules.place_of (Some h.0) (gaps_of q.now.gaps.now q.now.session.gaps) x.0 }
 {
-    if h.0 < x.0 {
+    if h < x {
         if x.0 - h.0 <= MAX_GAP_SIZE {
             return Place::Near(h);
         }
         return Place::Far(h);
     }
-    if packet_gaps::contains(gaps, n, x) {
+    if packet_gaps::contains(q.gaps, q.session.gaps, x) {
         return Place::Fills;
     }
     Place::Other
 }
 
-// Stays: the caller lends the words (the C interface), and the session has the count.
-#[tactic(auto, unfolding(session::specs::Place::place, model::specs::Rules::place_of, model::specs::Records::highest_of))]
-fn place_of(last: Option<Received>, gaps: &[u64], n: usize, x: ExtendedSequenceNumber) -> Place
-    requires n_in_bounds { gap_words * n ≤ length gaps.now }
-    requires n_value { ascends (Records.gap_numbers (gaps_of gaps.now n)) ≡ true }
-    ensures { Spec.place result ≡ Rules.place_of (Records.highest_of last) (gaps_of gaps.now n) x.0 }
-{
-    match last {
-        None => Place::First,
-        Some(r) => place_after(r.number, gaps, n, x),
-    }
-}
-
 // Where a media packet's number stands.
-// Stays: the caller lends the words (the C interface), and the session has the count.
-#[tactic(auto, unfolding(session::specs::Place::place, model::specs::Push::place_in))]
-pub(crate) fn media_place(q: Queue, gaps: &[u64], n: usize, x: ExtendedSequenceNumber) -> Place
-    requires n_in_bounds { gap_words * n ≤ length gaps.now }
-    requires n_value { ascends (Records.gap_numbers (gaps_of gaps.now n)) ≡ true }
-    ensures { Spec.place result ≡ Push.place_in q (gaps_of gaps.now n) x.0 }
+// Stays: a type of a session that check 16 passed would be made anew after each write (`settle`, `apply`), for a clause of one line; and
+// with the number it would be one more, made for this call.
+#[tactic(auto, unfolding(session::specs::Place::place, model::specs::Push::place_in, model::specs::Rules::place_of, model::specs::Records::highest_of))]
+pub(crate) fn media_place(q: &Held, x: ExtendedSequenceNumber) -> Place
+    requires { Readable q.now.session q.now.gaps.now }
+    ensures { Spec.place result ≡ Push.place_in q.now.session.queue (gaps_of q.now.gaps.now q.now.session.gaps) x.0 }
 {
-    if session::passed(q, x) {
+    let queue = q.session.queue;
+    if session::passed(queue, x) {
         return Place::Other;
     }
-    let last = q.last;
-    place_of(last, gaps, n, x)
+    match queue.last {
+        None => Place::First,
+        Some(r) => place_after(r.number, q, x),
+    }
 }
 
 // 001's `report_received`: the gaps after a packet at this place; the answer is how many there are.
-// Stays: the caller lends the words (the C interface), and the session has the count.
+// Stays: the contract is of all of `gaps`, zeros behind the n too, so n gaps alone would not do; and of a `Held`, whose session is written
+// only after `gaps_from`, the count would be the old one. `GapsIn` and the order hold at this step, of a session that may be damaged.
 pub(crate) fn gaps_after(
     gaps: &mut [u64],
     n: usize,
@@ -105,7 +91,7 @@ pub(crate) fn gaps_after(
 }
 
 // Leaves the gaps from the number x on; the answer is how many there are.
-// Stays: the caller lends the words (the C interface), and the session has the count.
+// Stays: as `gaps_after`; here n is what `gaps_after` left, which the session does not have yet.
 pub(crate) fn gaps_from(gaps: &mut [u64], n: usize, x: ExtendedSequenceNumber) -> usize
     requires gaps_in { GapsIn gaps.old n }
     requires n_value { ascends (Records.gap_numbers (gaps_of gaps.old n)) ≡ true }

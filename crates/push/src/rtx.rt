@@ -1,12 +1,11 @@
 // `push_rtx` (000): a repair (RFC 4588), from the datagram's bytes to the gap that it fills.
-ghost use Rattle.std.specs.Prelude.{◌≡◌, true, List, [], ℕ, ◌*◌, ◌≤◌, ◌<◌, length, None, Some};
+ghost use Rattle.std.specs.Prelude.{◌≡◌, true, [], ℕ, ◌*◌, ◌≤◌, ◌<◌, length, None, Some};
 ghost use Rattle.words.specs.Order.{ascends};
 ghost use Rattle.refusals.specs.Refusals.{refusal_of, entries_full, refuse_if};
-ghost use Rattle.durations.specs.Seconds.{largest};
 ghost use Rattle.rtp_packet.specs.Datagram.{largest_payload, largest_repair};
 ghost use Rattle.model.specs.Records as Records;
 ghost use Rattle.model.specs.Push as Push;
-ghost use Rattle.model.specs.Storage.{gap_words, gaps_of, parse, write};
+ghost use Rattle.model.specs.Storage.{gap_words, gaps_of};
 ghost use Rattle.model.specs.Calls.{repair};
 ghost use Rattle.model.specs.Table.{session_sound, no_place, fate_refusal};
 ghost use Rattle.entries.specs.Entries.{entry};
@@ -15,17 +14,27 @@ ghost use Rattle.push.specs.Answers.{repair_answer};
 ghost use Rattle.model.specs.Contract.{Does};
 ghost use Rattle.storage.specs.Held.{held, SameSlices};
 ghost use Rattle.storage.specs.Settled.{Settled};
-ghost use Rattle.push.specs.Repair.{FitRepair, left_after, did_repair, did_original};
+ghost use Rattle.push.specs.Repair.{FitRepair, left_after, repaired_by, did_repair, did_original};
 
 use entries::Entry;
-use model::{Queue, Session};
+use model::Session;
 use refusals::Refusal;
 use rtp::{ExtendedSequenceNumber, SequenceNumber};
 use rtp_packet::RtpPacket;
 use session::rtx::Fate;
 use storage::Held;
 
+// A repair that no check turns back: when it came, the entry that it becomes where it fills a gap, and its payload.
+#[derive(Clone, Copy)]
+struct Repair<'a> {
+    instant: u64,
+    entry: Entry,
+    payload: &'a [u8],
+}
+
 // What becomes of a repair of the number x.
+// Stays: a type of a session that check 16 passed would be made anew after each write (`settle`, `apply`), for clauses of one line; and
+// with the number it would be one more, made for this call.
 #[tactic(auto, unfolding(session::specs::Place::fate, model::specs::Push::fate_in))]
 fn repair_fate(q: &Held, x: ExtendedSequenceNumber) -> Fate
     requires n_in_bounds { gap_words * q.now.session.gaps ≤ length q.now.gaps.now }
@@ -47,22 +56,15 @@ fn repair_fate(q: &Held, x: ExtendedSequenceNumber) -> Fate
 fn check_entries(places: usize, n: usize, fate: Fate) -> Result<(), Refusal>
     ensures { refusal_of result ≡ refuse_if (no_place places n (Spec.fate fate)) entries_full }
 {
-    // Stays: an enum says which step.
-    match fate {
-        Fate::TooLate => Ok(()),
-        Fate::Redundant => Ok(()),
-        Fate::Recovered => {
-            if places <= n {
-                return Err(Refusal::EntriesFull);
-            }
-            Ok(())
-        }
+    if matches!(fate, Fate::Recovered) && places <= n {
+        return Err(Refusal::EntriesFull);
     }
+    Ok(())
 }
 
 // 14, then 13, in a session that check 16 passes.
 fn check_fate(s: Session, e: Entry, fate: Fate) -> Result<(), Refusal>
-    requires { (s.queue.rtx.bytes_received ≤ largest) × (e.size ≤ largest_payload) × (s.queue.config.settings.max_entries ≤ 1024) }
+    requires { s.queue.config.settings.max_entries ≤ 1024 }
     ensures { refusal_of result ≡ fate_refusal s.queue s.entries e.timestamp.0 e.number.0 e.size (Spec.fate fate) }
 {
     let q = s.queue;
@@ -83,57 +85,62 @@ fn left_after(n: usize, taken: Option<u64>) -> usize
     }
 }
 
-// A repair that comes too late: the number is remembered no longer, and yields a sample if it was.
-fn too_late(q: &mut Held, instant: u64, e: Entry)
-    requires { Settled (held q.old) }
-    ensures same_slices { SameSlices q.old q.new }
-    ensures left { (payload : List ℕ) → held q.new ≡ write (Push.after_fate instant (entry e payload) Push.too_late (parse (held q.old))) }
-{
-    let s = q.session;
-    let nacked = lost_nacked::forget(q.remembered, s.remembered, e.number);
-    let queue = session::rtx::too_late(s.queue, instant, nacked);
-    let left = left_after(s.remembered, nacked);
-    q.session.queue = queue;
-    q.session.remembered = left;
-}
+impl Repair<'_> {
+    // It comes too late: the number is remembered no longer, and yields a sample if it was.
+    // Stays: a type that says settled would not hold here between the write to the remembered numbers and those to the session.
+    fn too_late(&self, q: &mut Held)
+        requires { Settled (held q.old) }
+        ensures same_slices { SameSlices q.old q.new }
+        ensures left { held q.new ≡ repaired_by self.now Fate.TooLate (held q.old) }
+    {
+        let s = q.session;
+        let nacked = lost_nacked::forget(q.remembered, s.remembered, self.entry.number);
+        let queue = session::rtx::too_late(s.queue, self.instant, nacked);
+        let left = left_after(s.remembered, nacked);
+        q.session.queue = queue;
+        q.session.remembered = left;
+    }
 
-// A repair that fills its gap.
-fn recover(q: &mut Held, instant: u64, e: Entry, payload: &[u8])
-    requires { FitRepair e payload.now Fate.Recovered (held q.old) }
-    ensures same_slices { SameSlices q.old q.new }
-    ensures left { held q.new ≡ write (Push.after_fate instant (entry e payload.now) Push.recovered (parse (held q.old))) }
-{
-    let s = q.session;
-    let nacked = packet_gaps::remove(q.gaps, s.gaps, e.number);
-    entries::insert(q.entries, q.payloads, s.entries, e, payload);
-    let queue = session::rtx::recovered(s.queue, instant, nacked, e.size as u64);
-    q.session = Session {
-        queue,
-        entries: s.entries + 1,
-        gaps: s.gaps - 1,
-        ..s
-    };
-}
+    // It fills its gap.
+    fn recover(&self, q: &mut Held)
+        requires { FitRepair self.now Fate.Recovered (held q.old) }
+        ensures same_slices { SameSlices q.old q.new }
+        ensures left { held q.new ≡ repaired_by self.now Fate.Recovered (held q.old) }
+    {
+        let s = q.session;
+        let e = self.entry;
+        let nacked = packet_gaps::remove(q.gaps, s.gaps, e.number);
+        entries::insert(q.entries, q.payloads, s.entries, e, self.payload);
+        let queue = session::rtx::recovered(s.queue, self.instant, nacked, e.size as u64);
+        q.session = Session {
+            queue,
+            entries: s.entries + 1,
+            gaps: s.gaps - 1,
+            ..s
+        };
+    }
 
-// A repair that is accepted.
-// Stays: one arm to a fate: an enum says which step.
-#[tactic(auto, using(crate::proofs::Repaired::redundant_is), unfolding(session::specs::Place::fate))]
-fn apply(q: &mut Held, instant: u64, e: Entry, payload: &[u8], fate: Fate)
-    requires { FitRepair e payload.now fate (held q.old) }
-    ensures same_slices { SameSlices q.old q.new }
-    ensures left { held q.new ≡ write (Push.after_fate instant (entry e payload.now) (Spec.fate fate) (parse (held q.old))) }
-{
-    match fate {
-        Fate::TooLate => too_late(q, instant, e),
-        Fate::Recovered => recover(q, instant, e, payload),
-        Fate::Redundant => {
-            let queue = session::rtx::redundant(q.session.queue, instant);
-            q.session.queue = queue;
+    // What becomes of it.
+    #[tactic(auto, using(crate::proofs::Repaired::redundant_is), unfolding(session::specs::Place::fate))]
+    fn apply(&self, q: &mut Held, fate: Fate)
+        requires { FitRepair self.now fate (held q.old) }
+        ensures same_slices { SameSlices q.old q.new }
+        ensures left { held q.new ≡ repaired_by self.now fate (held q.old) }
+    {
+        // Stays: three closures would each hold the session and the repair.
+        match fate {
+            Fate::TooLate => self.too_late(q),
+            Fate::Recovered => self.recover(q),
+            Fate::Redundant => {
+                let queue = session::rtx::redundant(q.session.queue, self.instant);
+                q.session.queue = queue;
+            }
         }
     }
 }
 
 // A repair of this number that no check before 14 turns back.
+// Stays: the instant is one call's; and a type that says sound would not hold of the session that `settle` changes here.
 fn push_original(
     q: &mut Held,
     instant: u64,
@@ -141,7 +148,7 @@ fn push_original(
     number: SequenceNumber,
     payload: &[u8],
 ) -> Result<Fate, Refusal>
-    requires remembered_value { session_sound (held q.old) ≡ true }
+    requires sound { session_sound (held q.old) ≡ true }
     requires payload_len_bound { length payload.now ≤ largest_payload }
     ensures same_slices { SameSlices q.old q.new }
     ensures does { did_repair instant (Push.extended_entry q.old.session.queue None p.timestamp.0 number.0 p.marker payload.now) (held q.old) ≡ record { answer = repair_answer result; stored = held q.new; output = [] } }
@@ -151,13 +158,19 @@ fn push_original(
     let fate = repair_fate(q, e.number);
     check_fate(s, e, fate)?;
     q.settle();
-    apply(q, instant, e, payload, fate);
+    let repair = Repair {
+        instant,
+        entry: e,
+        payload,
+    };
+    repair.apply(q, fate);
     Ok(fate)
 }
 
 // A repair that no check before 10 turns back; its payload begins with the original number.
+// Stays: the instant is one call's; and a type that says sound would not hold of the session that `push_original` changes.
 fn push_repair(q: &mut Held, instant: u64, p: RtpPacket, payload: &[u8]) -> Result<Fate, Refusal>
-    requires remembered_value { session_sound (held q.old) ≡ true }
+    requires sound { session_sound (held q.old) ≡ true }
     requires payload_len_bound { length payload.now ≤ largest_repair }
     ensures same_slices { SameSlices q.old q.new }
     ensures does { did_original instant p payload.now (held q.old) ≡ record { answer = repair_answer result; stored = held q.new; output = [] } }
@@ -169,6 +182,7 @@ fn push_repair(q: &mut Held, instant: u64, p: RtpPacket, payload: &[u8]) -> Resu
 }
 
 // A repair, in a datagram that came at this instant.
+// Stays: the session is lent and outlives the call, and the instant is this call's alone (the C interface has both as parameters).
 pub fn push_rtx(q: &mut Held, now: u64, datagram: &[u8]) -> Result<Fate, Refusal>
     ensures same_slices { SameSlices q.old q.new }
     ensures does { Does (repair now datagram.now) (held q.old) (repair_answer result) (held q.new) [] }

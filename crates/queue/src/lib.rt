@@ -1,5 +1,5 @@
 // The inbound queue (000), on a session and the storage that the caller lends for it: the opening, and the calls that leave the session as it
-// is. Each contract is one equation: `did`, the definition of what a call does, gives the answer and every lent byte.
+// is. In each contract one equation says the answer and every lent byte, by `did`, the definition of what a call does.
 #![tactic(auto)]
 
 pub mod open;

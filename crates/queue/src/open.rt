@@ -24,12 +24,7 @@ fn new_session(config: Config) -> Session
         last: None,
         returned: None,
         rtx: RtxState::new(),
-        counters: Counters {
-            dropped: 0,
-            received: 0,
-            bytes: 0,
-            lost: 0,
-        },
+        counters: Counters::default(),
         jitter: Jitter::new(config.settings.clock_rate),
         loss: PacketLoss::new(),
     };
@@ -41,6 +36,7 @@ fn new_session(config: Config) -> Session
     }
 }
 
+// Stays: the exported function lends the four slices (the C interface), and there is no session yet that a `Held` could have.
 #[tactic(auto, unfolding(model::specs::Table::opening_refusal, refusals::specs::Refusals::refuse_if, refusals::specs::Refusals::or_else))]
 fn check_opening(
     config: Config,
@@ -60,6 +56,7 @@ fn check_opening(
     Err(Refusal::Session)
 }
 
+// Stays: the exported function lends the four slices (the C interface), and there is no session yet that a `Held` could have.
 pub fn open(
     config: Config,
     entries: &mut [u64],

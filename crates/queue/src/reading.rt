@@ -27,6 +27,7 @@ use stats::RtpInboundRtxStats;
 use storage::Held;
 
 // Nanoseconds until the front entry of a sorted queue, which has this timestamp, is due.
+// Stays: the bounds are those of the struct that is built here, of a call's instant, a session's delay and a timestamp in lent words.
 #[tactic(auto, unfolding(model::specs::Poll::timeout_in))]
 fn until_front(
     rate: u32,
@@ -40,18 +41,20 @@ fn until_front(
 {
     match last {
         None => None,
-        Some(r) => Some(handout::timeout_receive(
-            r.instant,
-            r.timestamp,
-            timestamp,
-            rate,
-            delay,
-            now,
-        )),
+        Some(r) => {
+            let sorted = handout::SortedQueue {
+                last_instant: r.instant,
+                last_timestamp: r.timestamp,
+                clock_rate: rate,
+                delay,
+            };
+            Some(sorted.timeout_receive(timestamp, now))
+        }
     }
 }
 
 // Nanoseconds until the front entry is due.
+// Stays: the instant is of the call and the session outlives it; a struct of both, or one of an instant in range, would be built for this call.
 fn receive_timeout(q: &Held, now: u64) -> Option<u64>
     requires sound { T (settings_valid q.now.session.queue.config.settings) × T (last_sound now q.now.session.queue.last) × (now ≤ largest) }
     requires in_range { T (loss_in_range q.now.session.queue.loss) × T (opt_rtt_in_range q.now.session.queue.rtx.rtt) }
@@ -76,6 +79,7 @@ fn receive_timeout(q: &Held, now: u64) -> Option<u64>
 }
 
 // Nanoseconds until `poll` should be called; it may hand out nothing then (docs/USING.md, "Driving it").
+// Stays: the session is lent and outlives the call, and the instant is this call's alone (the C interface has both as parameters).
 pub fn timeout_receive(q: &mut Held, now: u64) -> Result<Option<u64>, Refusal>
     ensures same_slices { SameSlices q.old q.new }
     ensures same_session { q.new.session ≡ q.old.session }
@@ -87,6 +91,7 @@ pub fn timeout_receive(q: &mut Held, now: u64) -> Result<Option<u64>, Refusal>
 }
 
 // Nanoseconds until a gap is due.
+// Stays: the instant is one call's; a type of a session that check 16 passed would be made anew after `settle`, for a clause of one line.
 #[tactic(auto, unfolding(model::specs::Storage::parse))]
 fn nack_timeout(q: &Held, now: u64) -> Option<u64>
     requires in_bounds { gap_words * q.now.session.gaps ≤ length q.now.gaps.now }
@@ -99,7 +104,9 @@ fn nack_timeout(q: &Held, now: u64) -> Option<u64>
     packet_gaps::nacks::timeout_nacks(q.gaps, session.gaps, now, timings)
 }
 
-// Nanoseconds until `poll_nack` should be called; it may give a number up in the place of a NACK.
+// Nanoseconds until `poll_nack` should be called; it may give a number up in the place of a NACK. What it shares with `timeout_receive` is
+// the check and `settle`: a function of the two would take the reading as a closure, and its contract would say what every closure leaves.
+// Stays: the session is lent and outlives the call, and the instant is this call's alone (the C interface has both as parameters).
 pub fn timeout_nack(q: &mut Held, now: u64) -> Result<Option<u64>, Refusal>
     ensures same_slices { SameSlices q.old q.new }
     ensures same_session { q.new.session ≡ q.old.session }
@@ -114,14 +121,11 @@ pub fn timeout_nack(q: &mut Held, now: u64) -> Result<Option<u64>, Refusal>
 fn figures(q: Queue) -> Option<RtpInboundRtxStats>
     ensures { result ≡ Poll.repair_figures_of q }
 {
-    if q.config.senders.has_rtx {
-        Some(q.rtx.stats())
-    } else {
-        None
-    }
+    q.config.senders.has_rtx.then(|| q.rtx.stats())
 }
 
 // The figures of repairs, which a session without RTX has none of.
+#[tactic(auto, using(storage::proofs::Settled::passed_16))]
 pub fn rtx_stats(q: &mut Held) -> Result<Option<RtpInboundRtxStats>, Refusal>
     ensures same_slices { SameSlices q.old q.new }
     ensures same_session { q.new.session ≡ q.old.session }
@@ -140,6 +144,7 @@ fn highest(last: Option<Received>) -> Option<ExtendedSequenceNumber>
 }
 
 // The highest number that a media packet had.
+#[tactic(auto, using(storage::proofs::Settled::passed_16))]
 pub fn highest_sequence_number_received(
     q: &mut Held,
 ) -> Result<Option<ExtendedSequenceNumber>, Refusal>

@@ -8,7 +8,6 @@ use borrow.Author.Tests.{eq-eqb, ne_eqb, eqb-true, eqb-false}
 use Rattle.std.specs.Prelude.{Result, Ok, Err, IsErrAnd}
 use Rattle.std.proofs.lemmas.Result.{err_from_is_err_and}
 use Rattle.refusals.specs.declared.Refusal.{Refusal}
-use Rattle.refusals.specs.declared.Refusal.TheVariants as Refusal
 use Rattle.refusals.specs.Refusals.{number, refusal_of, numbered, refuse_if, or_else}
 
 pub or_else_second : (a b : ℕ) → a ≡ 0 → or_else a b ≡ b

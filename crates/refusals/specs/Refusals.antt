@@ -1,7 +1,6 @@
 -- 01, "Where a call is turned back", and 02: the numbers of the table, by the names that the code has for them, and how checks follow each other.
 use Rattle.std.specs.Prelude.{Bool, cond, List, [], ◌∷◌, ℕ, eqb, Result, Ok, Err}
 use Rattle.refusals.specs.declared.Refusal.{Refusal}
-use Rattle.refusals.specs.declared.Refusal.TheVariants as Refusal
 
 abbrev pub SETTINGS : ℕ
 SETTINGS = 1

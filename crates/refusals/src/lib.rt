@@ -75,7 +75,7 @@ pub enum Refusal {
 }
 
 impl Refusal {
-    // The table's number.
+    // The table's number; one that is changed above is not proved here.
     // Stays: the definitions have this name too; `u64::from(refusal)` would say less.
     pub fn number(self) -> u64
         ensures { result ≡ number self }
@@ -84,7 +84,7 @@ impl Refusal {
     }
 }
 
-// All of them, ascending by number, so that a number changed here is refused here.
+// All of them, ascending by number.
 pub fn all() -> [Refusal; 19]
     ensures { map number result ≡ numbers }
 {

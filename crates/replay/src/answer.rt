@@ -1,4 +1,5 @@
 // Answers as docs/TRACE.md has them ("Calls").
+use crate::receiver::Receiver;
 use config::Settings;
 use poll::HandedOut;
 use push::Media;
@@ -73,46 +74,29 @@ fn word_and_hex<W: Write>(out: &mut W, word: &str, bytes: &[u8]) -> io::Result<(
     out.write_all(b"\n")
 }
 
-// Stays: two words of the format.
 fn nothing<W: Write>(out: &mut W) -> io::Result<()> {
     out.write_all(b"nothing\n")
 }
 
-fn none<W: Write>(out: &mut W) -> io::Result<()> {
-    out.write_all(b"none\n")
-}
-
-pub(crate) fn refused<W: Write>(out: &mut W, refusal: Refusal) -> io::Result<()> {
-    writeln!(out, "refused {}", refusal.number())
-}
-
-pub(crate) fn media<W: Write>(out: &mut W, answer: Result<Media, Refusal>) -> io::Result<()> {
+fn media<W: Write>(out: &mut W, answer: Media) -> io::Result<()> {
     match answer {
-        Ok(Media::Queued) => out.write_all(b"queued\n"),
-        Ok(Media::Dropped) => out.write_all(b"dropped\n"),
-        Err(refusal) => refused(out, refusal),
+        Media::Queued => out.write_all(b"queued\n"),
+        Media::Dropped => out.write_all(b"dropped\n"),
     }
 }
 
-// Stays: two words of the format, of lists of two types.
-pub(crate) fn burst<W: Write>(
-    out: &mut W,
-    answer: Result<usize, Refusal>,
-    answers: &[u8],
-) -> io::Result<()> {
-    match answer {
-        Ok(count) => list(out, "answers", &answers[..count.min(answers.len())]),
-        Err(refusal) => refused(out, refusal),
+fn repair<W: Write>(out: &mut W, fate: Fate) -> io::Result<()> {
+    match fate {
+        Fate::Recovered => out.write_all(b"recovered\n"),
+        Fate::Redundant => out.write_all(b"redundant\n"),
+        Fate::TooLate => out.write_all(b"too late\n"),
     }
 }
 
-pub(crate) fn repair<W: Write>(out: &mut W, answer: Result<Fate, Refusal>) -> io::Result<()> {
-    match answer {
-        Ok(Fate::Recovered) => out.write_all(b"recovered\n"),
-        Ok(Fate::Redundant) => out.write_all(b"redundant\n"),
-        Ok(Fate::TooLate) => out.write_all(b"too late\n"),
-        Err(refusal) => refused(out, refusal),
-    }
+// The first of an output, as many as were written.
+// Stays: this makes the slice of a buffer and a count; a call answers a count, since the boundary cannot give back a part of what C lends.
+pub(crate) fn front<T>(output: &[T], count: usize) -> &[T] {
+    &output[..count.min(output.len())]
 }
 
 fn packet<W: Write>(out: &mut W, p: HandedOut, octets: &[u8]) -> io::Result<()> {
@@ -124,66 +108,8 @@ fn packet<W: Write>(out: &mut W, p: HandedOut, octets: &[u8]) -> io::Result<()> 
         out,
         "packet {pt} {number} {timestamp} {ssrc} {marker} {arrival} {delay}"
     )?;
-    hex(out, &octets[..p.size.min(octets.len())])?;
+    hex(out, front(octets, p.size))?;
     out.write_all(b"\n")
-}
-
-pub(crate) fn poll<W: Write>(
-    out: &mut W,
-    answer: Result<Option<HandedOut>, Refusal>,
-    octets: &[u8],
-) -> io::Result<()> {
-    match answer {
-        Ok(None) => nothing(out),
-        Ok(Some(p)) => packet(out, p, octets),
-        Err(refusal) => refused(out, refusal),
-    }
-}
-
-pub(crate) fn poll_nack<W: Write>(
-    out: &mut W,
-    answer: Result<Option<usize>, Refusal>,
-    numbers: &[u16],
-) -> io::Result<()> {
-    match answer {
-        Ok(None) => nothing(out),
-        Ok(Some(count)) => list(out, "nack", &numbers[..count.min(numbers.len())]),
-        Err(refusal) => refused(out, refusal),
-    }
-}
-
-// Stays: two words of the format.
-pub(crate) fn nack_wire<W: Write>(
-    out: &mut W,
-    answer: Result<usize, Refusal>,
-    octets: &[u8],
-) -> io::Result<()> {
-    match answer {
-        Ok(size) => word_and_hex(out, "wire", &octets[..size.min(octets.len())]),
-        Err(refusal) => refused(out, refusal),
-    }
-}
-
-pub(crate) fn read_nacks<W: Write>(
-    out: &mut W,
-    answer: Result<usize, Refusal>,
-    numbers: &[u16],
-) -> io::Result<()> {
-    match answer {
-        Ok(count) => list(out, "numbers", &numbers[..count.min(numbers.len())]),
-        Err(refusal) => refused(out, refusal),
-    }
-}
-
-pub(crate) fn timeout<W: Write>(
-    out: &mut W,
-    answer: Result<Option<u64>, Refusal>,
-) -> io::Result<()> {
-    match answer {
-        Ok(None) => none(out),
-        Ok(Some(n)) => writeln!(out, "after {n}"),
-        Err(refusal) => refused(out, refusal),
-    }
 }
 
 fn figures<W: Write>(out: &mut W, s: RtpInboundRtxStats) -> io::Result<()> {
@@ -191,28 +117,6 @@ fn figures<W: Write>(out: &mut W, s: RtpInboundRtxStats) -> io::Result<()> {
     let (redundant, bytes) = (s.packets_received_redundant, s.bytes_received);
     let rtt = OrDash(s.rtt);
     writeln!(out, "rtx {in_time} {too_late} {redundant} {bytes} {rtt}")
-}
-
-pub(crate) fn rtx_stats<W: Write>(
-    out: &mut W,
-    answer: Result<Option<RtpInboundRtxStats>, Refusal>,
-) -> io::Result<()> {
-    match answer {
-        Ok(None) => none(out),
-        Ok(Some(s)) => figures(out, s),
-        Err(refusal) => refused(out, refusal),
-    }
-}
-
-pub(crate) fn highest<W: Write>(
-    out: &mut W,
-    answer: Result<Option<ExtendedSequenceNumber>, Refusal>,
-) -> io::Result<()> {
-    match answer {
-        Ok(None) => none(out),
-        Ok(Some(n)) => writeln!(out, "highest {}", n.0),
-        Err(refusal) => refused(out, refusal),
-    }
 }
 
 fn settings<W: Write>(out: &mut W, s: Settings) -> io::Result<()> {
@@ -233,23 +137,54 @@ fn settings<W: Write>(out: &mut W, s: Settings) -> io::Result<()> {
     writeln!(out, " {resend} {attempts} {min} {max} {target}")
 }
 
-pub(crate) fn read_settings<W: Write>(
-    out: &mut W,
-    answer: Result<Settings, Refusal>,
-) -> io::Result<()> {
-    match answer {
-        Ok(s) => settings(out, s),
-        Err(refusal) => refused(out, refusal),
-    }
+// What a line is answered, and with it the part of an output that its call has written.
+#[derive(Clone, Copy)]
+pub enum Answer<'a> {
+    Unreadable,
+    NoSession,
+    Refused(Refusal),
+    Opened,
+    Media(Media),
+    Burst(&'a [u8]),
+    Repair(Fate),
+    // None where no packet is handed out.
+    Poll(Option<HandedOut>, &'a [u8]),
+    PollNack(&'a [u16]),
+    NackWire(&'a [u8]),
+    ReadNacks(&'a [u16]),
+    Timeout(Option<u64>),
+    RtxStats(Option<RtpInboundRtxStats>),
+    Highest(Option<ExtendedSequenceNumber>),
+    State(&'a Receiver),
+    ReadSettings(Settings),
+    WriteSettings(&'a [u8]),
 }
 
-pub(crate) fn write_settings<W: Write>(
-    out: &mut W,
-    answer: Result<usize, Refusal>,
-    octets: &[u8],
-) -> io::Result<()> {
-    match answer {
-        Ok(size) => word_and_hex(out, "line", &octets[..size.min(octets.len())]),
-        Err(refusal) => refused(out, refusal),
+impl Answer<'_> {
+    pub(crate) fn write<W: Write>(self, out: &mut W) -> io::Result<()> {
+        // Stays: one arm to an answer, with what it holds: a trait for what is written would be a type and an impl for each of these arms.
+        match self {
+            Answer::Unreadable => out.write_all(b"unreadable\n"),
+            Answer::NoSession => out.write_all(b"no session\n"),
+            Answer::Refused(refusal) => writeln!(out, "refused {}", refusal.number()),
+            Answer::Opened => out.write_all(b"opened\n"),
+            Answer::Media(answer) => media(out, answer),
+            Answer::Burst(answers) => list(out, "answers", answers),
+            Answer::Repair(fate) => repair(out, fate),
+            Answer::Poll(None, _) => nothing(out),
+            Answer::Poll(Some(p), octets) => packet(out, p, octets),
+            Answer::PollNack(numbers) => list(out, "nack", numbers),
+            Answer::NackWire(octets) => word_and_hex(out, "wire", octets),
+            Answer::ReadNacks(numbers) => list(out, "numbers", numbers),
+            Answer::Timeout(None) | Answer::RtxStats(None) | Answer::Highest(None) => {
+                out.write_all(b"none\n")
+            }
+            Answer::Timeout(Some(n)) => writeln!(out, "after {n}"),
+            Answer::RtxStats(Some(s)) => figures(out, s),
+            Answer::Highest(Some(n)) => writeln!(out, "highest {}", n.0),
+            Answer::State(receiver) => receiver.write_state(out),
+            Answer::ReadSettings(s) => settings(out, s),
+            Answer::WriteSettings(octets) => word_and_hex(out, "line", octets),
+        }
     }
 }

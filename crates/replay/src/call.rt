@@ -49,12 +49,14 @@ pub enum SessionCall<'a> {
         now: u64,
         places: u64,
     },
-    TimeoutReceive {
-        now: u64,
-    },
-    TimeoutNack {
-        now: u64,
-    },
+    Reading(Reading),
+}
+
+// A call that leaves the session as it is.
+#[derive(Clone, Copy)]
+pub enum Reading {
+    TimeoutReceive { now: u64 },
+    TimeoutNack { now: u64 },
     RtxStats,
     Highest,
     State,
@@ -75,30 +77,6 @@ impl Lent {
             ends: Vec::with_capacity(alloc, LINE / 2)?,
         })
     }
-}
-
-// Numbers that are all the fields.
-fn only<const N: usize>(mut fields: Fields<'_>) -> Result<[u64; N], ReadError> {
-    let numbers = fields.numbers()?;
-    fields.end()?;
-    Ok(numbers)
-}
-
-// NOW, where that is the only field.
-fn now(fields: Fields<'_>) -> Result<u64, ReadError> {
-    let [now] = only::<1>(fields)?;
-    Ok(now)
-}
-
-// A number and HEX that are all the fields.
-fn with_hex<'a>(
-    mut fields: Fields<'_>,
-    bytes: &'a mut Vec<u8>,
-) -> Result<(u64, &'a [u8]), ReadError> {
-    let n = fields.number()?;
-    let read = fields.hex(bytes)?;
-    fields.end()?;
-    Ok((n, read))
 }
 
 // An `open` has three numbers more in mode 2 than in any other.
@@ -127,7 +105,7 @@ fn burst<'a>(mut fields: Fields<'_>, lent: &'a mut Lent) -> Result<SessionCall<'
 }
 
 fn read_nacks<'a>(fields: Fields<'_>, bytes: &'a mut Vec<u8>) -> Result<Call<'a>, ReadError> {
-    let (places, entries) = with_hex(fields, bytes)?;
+    let (places, entries) = fields.with_hex(bytes)?;
     Ok(Call::ReadNacks { places, entries })
 }
 
@@ -143,70 +121,91 @@ fn read_settings<'a>(
 fn write_settings<'a>(mut fields: Fields<'_>) -> Result<Call<'a>, ReadError> {
     let places = fields.number()?;
     let settings = fields.numbers::<8>()?;
-    let dynamic = only(fields)?;
+    let dynamic = fields.only()?;
     let settings = opening::line_settings(settings, dynamic);
     Ok(Call::WriteSettings { places, settings })
 }
 
-// A call that brings a datagram.
-fn bringing<'a>(
-    word: &str,
-    fields: Fields<'_>,
-    bytes: &'a mut Vec<u8>,
-) -> Result<SessionCall<'a>, ReadError> {
-    let (now, datagram) = with_hex(fields, bytes)?;
-    match word {
-        "media" => Ok(SessionCall::Media { now, datagram }),
-        "repair" => Ok(SessionCall::Repair { now, datagram }),
-        _ => Err(ReadError::Unreadable),
-    }
+// A line as its word and the fields behind it.
+#[derive(Drop)]
+struct Line<'l> {
+    word: &'l str,
+    fields: Fields<'l>,
 }
 
-// A call of a session that has no field, or NOW alone, or NOW and PLACES.
-fn asking<'a>(word: &str, fields: Fields<'_>) -> Result<SessionCall<'a>, ReadError> {
-    match word {
-        "poll" => Ok(SessionCall::Poll { now: now(fields)? }),
-        "poll_nack" => Ok(SessionCall::PollNack { now: now(fields)? }),
-        "timeout_receive" => Ok(SessionCall::TimeoutReceive { now: now(fields)? }),
-        "timeout_nack" => Ok(SessionCall::TimeoutNack { now: now(fields)? }),
-        "nack_wire" => {
-            let [now, places] = only::<2>(fields)?;
-            Ok(SessionCall::NackWire { now, places })
+impl<'l> Line<'l> {
+    fn new(line: &'l [u8]) -> Result<Self, ReadError> {
+        let (word, fields) = field::split(line);
+        let word = str::from_utf8(word).or(Err(ReadError::Unreadable))?;
+        Ok(Line { word, fields })
+    }
+
+    // A call that brings a datagram.
+    fn bringing<'a>(self, bytes: &'a mut Vec<u8>) -> Result<SessionCall<'a>, ReadError> {
+        let (now, datagram) = self.fields.with_hex(bytes)?;
+        match self.word {
+            "media" => Ok(SessionCall::Media { now, datagram }),
+            "repair" => Ok(SessionCall::Repair { now, datagram }),
+            _ => Err(ReadError::Unreadable),
         }
-        _ => bare(word, fields),
     }
-}
 
-fn bare<'a>(word: &str, fields: Fields<'_>) -> Result<SessionCall<'a>, ReadError> {
-    fields.end()?;
-    match word {
-        "rtx_stats" => Ok(SessionCall::RtxStats),
-        "highest" => Ok(SessionCall::Highest),
-        "state" => Ok(SessionCall::State),
-        _ => Err(ReadError::Unreadable),
+    // A call that has NOW alone, or NOW and PLACES, or no field.
+    fn asking<'a>(self) -> Result<SessionCall<'a>, ReadError> {
+        match self.word {
+            "poll" => Ok(SessionCall::Poll {
+                now: self.fields.now()?,
+            }),
+            "poll_nack" => Ok(SessionCall::PollNack {
+                now: self.fields.now()?,
+            }),
+            "nack_wire" => {
+                let [now, places] = self.fields.only::<2>()?;
+                Ok(SessionCall::NackWire { now, places })
+            }
+            _ => Ok(SessionCall::Reading(self.reading()?)),
+        }
     }
-}
 
-fn of_session<'a>(
-    word: &str,
-    fields: Fields<'_>,
-    lent: &'a mut Lent,
-) -> Result<SessionCall<'a>, ReadError> {
-    match word {
-        "media" | "repair" => bringing(word, fields, &mut lent.bytes),
-        "burst" => burst(fields, lent),
-        _ => asking(word, fields),
+    fn reading(self) -> Result<Reading, ReadError> {
+        match self.word {
+            "timeout_receive" => Ok(Reading::TimeoutReceive {
+                now: self.fields.now()?,
+            }),
+            "timeout_nack" => Ok(Reading::TimeoutNack {
+                now: self.fields.now()?,
+            }),
+            _ => self.bare(),
+        }
+    }
+
+    fn bare(self) -> Result<Reading, ReadError> {
+        self.fields.end()?;
+        match self.word {
+            "rtx_stats" => Ok(Reading::RtxStats),
+            "highest" => Ok(Reading::Highest),
+            "state" => Ok(Reading::State),
+            _ => Err(ReadError::Unreadable),
+        }
+    }
+
+    fn of_session<'a>(self, lent: &'a mut Lent) -> Result<SessionCall<'a>, ReadError> {
+        match self.word {
+            "media" | "repair" => self.bringing(&mut lent.bytes),
+            "burst" => burst(self.fields, lent),
+            _ => self.asking(),
+        }
     }
 }
 
 // The call that a line is.
 pub(crate) fn read<'a>(line: &[u8], lent: &'a mut Lent) -> Result<Call<'a>, ReadError> {
-    let (word, fields) = field::split(line);
-    match str::from_utf8(word).or(Err(ReadError::Unreadable))? {
-        "open" => Ok(Call::Open(open(fields)?)),
-        "read_nacks" => read_nacks(fields, &mut lent.bytes),
-        "read_settings" => read_settings(fields, &mut lent.bytes),
-        "write_settings" => write_settings(fields),
-        word => Ok(Call::OfSession(of_session(word, fields, lent)?)),
+    let line = Line::new(line)?;
+    match line.word {
+        "open" => Ok(Call::Open(open(line.fields)?)),
+        "read_nacks" => read_nacks(line.fields, &mut lent.bytes),
+        "read_settings" => read_settings(line.fields, &mut lent.bytes),
+        "write_settings" => write_settings(line.fields),
+        _ => Ok(Call::OfSession(line.of_session(lent)?)),
     }
 }

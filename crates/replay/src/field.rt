@@ -98,6 +98,30 @@ impl Fields<'_> {
         Ok(list)
     }
 
+    // Numbers that are all the fields.
+    pub(crate) fn only<const N: usize>(mut self) -> Result<[u64; N], ReadError> {
+        let numbers = self.numbers()?;
+        self.end()?;
+        Ok(numbers)
+    }
+
+    // NOW, where that is the only field.
+    pub(crate) fn now(self) -> Result<u64, ReadError> {
+        let [now] = self.only::<1>()?;
+        Ok(now)
+    }
+
+    // A number and HEX that are all the fields.
+    pub(crate) fn with_hex<'b>(
+        mut self,
+        bytes: &'b mut Vec<u8>,
+    ) -> Result<(u64, &'b [u8]), ReadError> {
+        let n = self.number()?;
+        let read = self.hex(bytes)?;
+        self.end()?;
+        Ok((n, read))
+    }
+
     // That no field is left.
     pub(crate) fn end(self) -> Result<(), ReadError> {
         if self.0.is_empty() {

@@ -4,13 +4,7 @@ use entries::{ENTRY_WORDS, PAYLOAD_BYTES};
 use lost_nacked::{MAX_LOST_NACKED, REMEMBERED_WORDS};
 use model::{Config, Session};
 use packet_gaps::GAP_WORDS;
-use poll::HandedOut;
-use push::Media;
-use queue::reading;
 use refusals::Refusal;
-use rtp::ExtendedSequenceNumber;
-use session::rtx::Fate;
-use stats::RtpInboundRtxStats;
 use std::alloc::{AllocError, Global};
 use storage::Held;
 
@@ -73,76 +67,13 @@ pub struct Receiver {
 }
 
 impl Receiver {
-    // Stays: each method makes the call of its name.
-    pub(crate) fn media(&mut self, now: u64, datagram: &[u8]) -> Result<Media, Refusal> {
+    // A call on the session, which keeps what the call leaves of it.
+    pub(crate) fn call<A, F: FnOnce(&mut Held<'_>) -> A>(&mut self, call: F) -> A
+        requires { F.IsAlwaysCallable call }
+    {
         let mut held = self.storage.held(self.session);
-        let answer = push::push(&mut held, now, datagram);
+        let answer = call(&mut held);
         self.session = held.session;
         answer
-    }
-
-    // How many answers there are.
-    pub(crate) fn burst(
-        &mut self,
-        now: u64,
-        buffer: &[u8],
-        ends: &[u64],
-        answers: &mut [u8],
-    ) -> Result<usize, Refusal> {
-        let mut held = self.storage.held(self.session);
-        let answer = burst::push_burst(&mut held, now, buffer, ends, answers);
-        self.session = held.session;
-        answer
-    }
-
-    pub(crate) fn repair(&mut self, now: u64, datagram: &[u8]) -> Result<Fate, Refusal> {
-        let mut held = self.storage.held(self.session);
-        let answer = push::rtx::push_rtx(&mut held, now, datagram);
-        self.session = held.session;
-        answer
-    }
-
-    // Stays: each method makes the call of its name.
-    pub(crate) fn poll(&mut self, now: u64, out: &mut [u8]) -> Result<Option<HandedOut>, Refusal> {
-        let mut held = self.storage.held(self.session);
-        let answer = poll::poll(&mut held, now, out);
-        self.session = held.session;
-        answer
-    }
-
-    pub(crate) fn poll_nack(
-        &mut self,
-        now: u64,
-        out: &mut [u16],
-    ) -> Result<Option<usize>, Refusal> {
-        let mut held = self.storage.held(self.session);
-        let answer = poll::nack::poll_nack(&mut held, now, out);
-        self.session = held.session;
-        answer
-    }
-
-    pub(crate) fn nack_wire(&mut self, now: u64, out: &mut [u8]) -> Result<usize, Refusal> {
-        let mut held = self.storage.held(self.session);
-        let answer = poll::wire::nack_wire(&mut held, now, out);
-        self.session = held.session;
-        answer
-    }
-
-    // The calls below leave the session as it is.
-
-    pub(crate) fn timeout_receive(&mut self, now: u64) -> Result<Option<u64>, Refusal> {
-        reading::timeout_receive(&mut self.storage.held(self.session), now)
-    }
-
-    pub(crate) fn timeout_nack(&mut self, now: u64) -> Result<Option<u64>, Refusal> {
-        reading::timeout_nack(&mut self.storage.held(self.session), now)
-    }
-
-    pub(crate) fn rtx_stats(&mut self) -> Result<Option<RtpInboundRtxStats>, Refusal> {
-        reading::rtx_stats(&mut self.storage.held(self.session))
-    }
-
-    pub(crate) fn highest(&mut self) -> Result<Option<ExtendedSequenceNumber>, Refusal> {
-        reading::highest_sequence_number_received(&mut self.storage.held(self.session))
     }
 }

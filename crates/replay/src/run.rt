@@ -1,11 +1,15 @@
 // Line by line: read, made, answered.
-use crate::call::{Call, Lent, SessionCall};
+use crate::answer::{Answer, front};
+use crate::call::{Call, Lent, Reading, SessionCall};
 use crate::field::ReadError;
 use crate::input::LINE;
 use crate::receiver::{Receiver, Storage};
-use crate::{answer, call, input, state};
+use crate::{call, input};
 use config::Settings;
 use model::Config;
+use poll::{nack, wire};
+use push::rtx;
+use queue::reading;
 use refusals::Refusal;
 use std::alloc::{AllocError, Global};
 use std::io;
@@ -55,9 +59,9 @@ impl Replay {
         })
     }
 
-    fn open<W: Write>(&mut self, out: &mut W, config: Option<Config>) -> io::Result<()> {
+    fn open(&mut self, config: Option<Config>) -> Result<Result<Answer<'_>, Refusal>, AllocError> {
         let Some(config) = config else {
-            return answer::refused(out, Refusal::Settings);
+            return Ok(Err(Refusal::Settings));
         };
         let mut storage = match self.spare.take() {
             Some(storage) => storage,
@@ -67,81 +71,86 @@ impl Replay {
             Ok(session) => {
                 let before = self.receiver.replace(Receiver { session, storage });
                 self.spare = before.map(|r| r.storage);
-                out.write_all(b"opened\n")
+                Ok(Ok(Answer::Opened))
             }
             Err(refusal) => {
                 self.spare = Some(storage);
-                answer::refused(out, refusal)
+                Ok(Err(refusal))
             }
         }
     }
 
-    fn read_nacks<W: Write>(&mut self, out: &mut W, places: u64, entries: &[u8]) -> io::Result<()> {
+    fn read_nacks(&mut self, places: u64, entries: &[u8]) -> Result<Answer<'_>, Refusal> {
         let numbers = lend(&mut self.outputs.numbers, places);
-        let answer = nack_pairs::read::read(entries, numbers);
-        answer::read_nacks(out, answer, numbers)
+        let count = nack_pairs::read::read(entries, numbers)?;
+        Ok(Answer::ReadNacks(front(numbers, count)))
     }
 
-    fn write_settings<W: Write>(
+    fn write_settings(
         &mut self,
-        out: &mut W,
         places: u64,
         settings: Option<Settings>,
-    ) -> io::Result<()> {
-        let Some(settings) = settings else {
-            return answer::refused(out, Refusal::Settings);
-        };
+    ) -> Result<Answer<'_>, Refusal> {
+        let settings = settings.ok_or(Refusal::Settings)?;
         let octets = lend(&mut self.outputs.octets, places);
-        let answer = settings_line::write_line(settings, octets);
-        answer::write_settings(out, answer, octets)
+        let size = settings_line::write_line(settings, octets)?;
+        Ok(Answer::WriteSettings(front(octets, size)))
     }
 
-    fn of_session<W: Write>(&mut self, out: &mut W, call: SessionCall<'_>) -> io::Result<()> {
+    fn of_session(&mut self, call: SessionCall<'_>) -> Result<Answer<'_>, Refusal> {
         match &mut self.receiver {
-            None => out.write_all(b"no session\n"),
-            Some(receiver) => on(receiver, &mut self.outputs, out, call),
+            None => Ok(Answer::NoSession),
+            Some(receiver) => on(receiver, &mut self.outputs, call),
         }
     }
 
-    // Stays: one arm to a call: an enum says which.
-    fn make<W: Write>(&mut self, out: &mut W, call: Call<'_>) -> io::Result<()> {
-        // Stays: an enum says which call.
+    fn make(&mut self, call: Call<'_>) -> Result<Result<Answer<'_>, Refusal>, AllocError> {
+        // Stays: the reader of a line hands the enum on before there is a session; closures would each hold what the line lends.
         match call {
-            Call::Open(config) => self.open(out, config),
-            Call::ReadNacks { places, entries } => self.read_nacks(out, places, entries),
-            Call::ReadSettings(line) => answer::read_settings(out, settings_line::read_line(line)),
-            Call::WriteSettings { places, settings } => self.write_settings(out, places, settings),
-            Call::OfSession(call) => self.of_session(out, call),
+            Call::Open(config) => self.open(config),
+            Call::ReadNacks { places, entries } => Ok(self.read_nacks(places, entries)),
+            Call::ReadSettings(line) => Ok(read_settings(line)),
+            Call::WriteSettings { places, settings } => Ok(self.write_settings(places, settings)),
+            Call::OfSession(call) => Ok(self.of_session(call)),
         }
     }
 
-    // A line that was read.
-    fn answer<W: Write>(&mut self, out: &mut W, line: &[u8], lent: &mut Lent) -> io::Result<()> {
+    // A line that was read; none where it is passed over.
+    fn answer(&mut self, line: &[u8], lent: &mut Lent) -> io::Result<Option<Answer<'_>>> {
         if matches!(line.first(), None | Some(b'#')) {
-            return Ok(());
+            return Ok(None);
         }
         if LINE <= line.len() {
-            return out.write_all(b"unreadable\n");
+            return Ok(Some(Answer::Unreadable));
         }
         match call::read(line, lent) {
-            Ok(call) => self.make(out, call),
-            Err(ReadError::Unreadable) => out.write_all(b"unreadable\n"),
+            Ok(call) => Ok(Some(match self.make(call)? {
+                Ok(answer) => answer,
+                Err(refusal) => Answer::Refused(refusal),
+            })),
+            Err(ReadError::Unreadable) => Ok(Some(Answer::Unreadable)),
             Err(ReadError::OutOfMemory) => Err(io::ErrorKind::OutOfMemory.into()),
         }
     }
 }
 
+fn read_settings<'a>(line: &[u8]) -> Result<Answer<'a>, Refusal> {
+    let settings = settings_line::read_line(line)?;
+    Ok(Answer::ReadSettings(settings))
+}
+
 // A call on an open session.
-// Stays: one arm to a call: an enum says which.
-fn on<W: Write>(
-    receiver: &mut Receiver,
-    outputs: &mut Outputs,
-    out: &mut W,
+fn on<'a>(
+    receiver: &'a mut Receiver,
+    outputs: &'a mut Outputs,
     call: SessionCall<'_>,
-) -> io::Result<()> {
-    // Stays: an enum says which call.
+) -> Result<Answer<'a>, Refusal> {
+    // Stays: as in `make`.
     match call {
-        SessionCall::Media { now, datagram } => answer::media(out, receiver.media(now, datagram)),
+        SessionCall::Media { now, datagram } => {
+            let answer = receiver.call(|q| push::push(q, now, datagram))?;
+            Ok(Answer::Media(answer))
+        }
         SessionCall::Burst {
             now,
             places,
@@ -149,44 +158,64 @@ fn on<W: Write>(
             ends,
         } => {
             let answers = lend(&mut outputs.octets, places);
-            let answer = receiver.burst(now, buffer, ends, answers);
-            answer::burst(out, answer, answers)
+            let count = receiver.call(|q| burst::push_burst(q, now, buffer, ends, answers))?;
+            Ok(Answer::Burst(front(answers, count)))
         }
-        SessionCall::Repair { now, datagram } => answer::repair(
-            out,
-            receiver.repair(now, datagram),
-        ),
+        SessionCall::Repair { now, datagram } => {
+            let fate = receiver.call(|q| rtx::push_rtx(q, now, datagram))?;
+            Ok(Answer::Repair(fate))
+        }
         SessionCall::Poll { now } => {
-            let answer = receiver.poll(now, &mut outputs.octets);
-            answer::poll(out, answer, &outputs.octets)
+            let octets = outputs.octets.as_mut_slice();
+            let packet = receiver.call(|q| poll::poll(q, now, octets))?;
+            Ok(Answer::Poll(packet, octets))
         }
         SessionCall::PollNack { now } => {
-            let answer = receiver.poll_nack(now, &mut outputs.numbers);
-            answer::poll_nack(out, answer, &outputs.numbers)
+            let numbers = outputs.numbers.as_mut_slice();
+            let count = receiver.call(|q| nack::poll_nack(q, now, numbers))?;
+            Ok(Answer::PollNack(front(numbers, count.unwrap_or(0))))
         }
         SessionCall::NackWire { now, places } => {
             let octets = lend(&mut outputs.octets, places);
-            let answer = receiver.nack_wire(now, octets);
-            answer::nack_wire(out, answer, octets)
+            let size = receiver.call(|q| wire::nack_wire(q, now, octets))?;
+            Ok(Answer::NackWire(front(octets, size)))
         }
-        SessionCall::TimeoutReceive { now } => answer::timeout(out, receiver.timeout_receive(now)),
-        SessionCall::TimeoutNack { now } => answer::timeout(out, receiver.timeout_nack(now)),
-        SessionCall::RtxStats => answer::rtx_stats(out, receiver.rtx_stats()),
-        SessionCall::Highest => answer::highest(out, receiver.highest()),
-        SessionCall::State => state::write(out, receiver),
+        SessionCall::Reading(call) => look(receiver, call),
+    }
+}
+
+fn look(receiver: &mut Receiver, call: Reading) -> Result<Answer<'_>, Refusal> {
+    match call {
+        Reading::TimeoutReceive { now } => {
+            let timeout = receiver.call(|q| reading::timeout_receive(q, now))?;
+            Ok(Answer::Timeout(timeout))
+        }
+        Reading::TimeoutNack { now } => {
+            let timeout = receiver.call(|q| reading::timeout_nack(q, now))?;
+            Ok(Answer::Timeout(timeout))
+        }
+        Reading::RtxStats => {
+            let stats = receiver.call(|q| reading::rtx_stats(q))?;
+            Ok(Answer::RtxStats(stats))
+        }
+        Reading::Highest => {
+            let highest = receiver.call(|q| reading::highest_sequence_number_received(q))?;
+            Ok(Answer::Highest(highest))
+        }
+        Reading::State => Ok(Answer::State(receiver)),
     }
 }
 
 // The line that is read, and what its fields are read into.
 #[derive(Drop)]
-struct Reading {
+struct Input {
     line: Vec<u8>,
     lent: Lent,
 }
 
-impl Reading {
+impl Input {
     fn new(alloc: Global) -> Result<Self, AllocError> {
-        Ok(Reading {
+        Ok(Input {
             line: Vec::with_capacity(alloc, LINE)?,
             lent: Lent::new(alloc)?,
         })
@@ -196,23 +225,25 @@ impl Reading {
 // Every line of the input.
 fn lines<W: Write>(
     replay: &mut Replay,
-    reading: &mut Reading,
+    read: &mut Input,
     input: &mut BufReader<Stdin>,
     out: &mut W,
 ) -> io::Result<()> {
     for _ in 0..u64::MAX {
-        if !input::next_line(input, out, &mut reading.line)? {
+        if !input::next_line(input, out, &mut read.line)? {
             break;
         }
-        replay.answer(out, &reading.line, &mut reading.lent)?;
+        if let Some(answer) = replay.answer(&read.line, &mut read.lent)? {
+            answer.write(out)?;
+        }
     }
     out.flush()
 }
 
 pub(crate) fn run(alloc: Global, stdin: Stdin, stdout: Stdout) -> io::Result<()> {
     let mut replay = Replay::new(alloc)?;
-    let mut reading = Reading::new(alloc)?;
+    let mut read = Input::new(alloc)?;
     let mut input = BufReader::with_capacity(alloc, BLOCK, stdin)?;
     let mut out = BufWriter::with_capacity(alloc, BLOCK, stdout)?;
-    lines(&mut replay, &mut reading, &mut input, &mut out)
+    lines(&mut replay, &mut read, &mut input, &mut out)
 }

@@ -1,5 +1,5 @@
 // The lines of `state` (docs/TRACE.md, "state").
-use crate::answer::{OrDash, hex};
+use crate::answer::{OrDash, front, hex};
 use crate::receiver::Receiver;
 use entries::{ENTRY_WORDS, Entry, PAYLOAD_BYTES};
 use lost_nacked::{REMEMBERED_WORDS, Remembered};
@@ -11,7 +11,7 @@ use std::io::Write;
 
 // A NaN, which no session holds that a call left, has no bits of its own.
 
-// Stays: a trait for both would be longer than the two.
+// Stays: a trait would have `is_nan`, the bits and their width for each type, which is all that the two functions have.
 fn f64_bits<W: Write>(out: &mut W, x: f64) -> io::Result<()> {
     if x.is_nan() {
         return out.write_all(b" -");
@@ -78,16 +78,12 @@ fn entry<W: Write>(out: &mut W, e: Entry, place: &[u8]) -> io::Result<()> {
     let (number, timestamp, marker) = (e.number.0, e.timestamp.0, u8::from(e.marker));
     let arrival = OrDash(e.arrival);
     write!(out, "entry {number} {timestamp} {arrival} {marker}")?;
-    hex(out, &place[..e.size.min(place.len())])?;
+    hex(out, front(place, e.size))?;
     out.write_all(b"\n")
 }
 
 fn gap<W: Write>(out: &mut W, g: Gap) -> io::Result<()> {
-    let nacked = OrDash(if g.nacks == 0 {
-        None
-    } else {
-        Some(g.nacked_at)
-    });
+    let nacked = OrDash((g.nacks != 0).then_some(g.nacked_at));
     writeln!(
         out,
         "gap {} {} {nacked} {}",
@@ -99,36 +95,40 @@ fn remembered<W: Write>(out: &mut W, r: Remembered) -> io::Result<()> {
     writeln!(out, "remembered {} {}", r.number.0, r.nacked_at)
 }
 
-fn entry_lines<W: Write>(out: &mut W, receiver: &Receiver) -> io::Result<()> {
-    let storage = &receiver.storage;
-    let places = storage.payloads.chunks_exact(PAYLOAD_BYTES);
-    let records = storage.entries.chunks_exact(ENTRY_WORDS).zip(places);
-    for (words, place) in records.take(receiver.session.entries) {
-        entry(out, entries::read(words, 0), place)?;
+impl Receiver {
+    fn entry_lines<W: Write>(&self, out: &mut W) -> io::Result<()> {
+        let storage = &self.storage;
+        let places = storage.payloads.chunks_exact(PAYLOAD_BYTES);
+        let records = storage.entries.chunks_exact(ENTRY_WORDS).zip(places);
+        for (words, place) in records.take(self.session.entries) {
+            entry(out, entries::read(words, 0), place)?;
+        }
+        Ok(())
     }
-    Ok(())
-}
 
-// Stays: one loop to a list, each with the list's own width.
-fn gap_lines<W: Write>(out: &mut W, receiver: &Receiver) -> io::Result<()> {
-    let records = receiver.storage.gaps.chunks_exact(GAP_WORDS);
-    for words in records.take(receiver.session.gaps) {
-        gap(out, packet_gaps::read(words, 0))?;
+    // Stays: one function for both would take words, width, count and a closure, and a contract that each part is as long as `read` asks;
+    // with its two calls it is longer than these two loops.
+    fn gap_lines<W: Write>(&self, out: &mut W) -> io::Result<()> {
+        let records = self.storage.gaps.chunks_exact(GAP_WORDS);
+        for words in records.take(self.session.gaps) {
+            gap(out, packet_gaps::read(words, 0))?;
+        }
+        Ok(())
     }
-    Ok(())
-}
 
-fn remembered_lines<W: Write>(out: &mut W, receiver: &Receiver) -> io::Result<()> {
-    let records = receiver.storage.remembered.chunks_exact(REMEMBERED_WORDS);
-    for words in records.take(receiver.session.remembered) {
-        remembered(out, lost_nacked::read(words, 0))?;
+    fn remembered_lines<W: Write>(&self, out: &mut W) -> io::Result<()> {
+        let records = self.storage.remembered.chunks_exact(REMEMBERED_WORDS);
+        for words in records.take(self.session.remembered) {
+            remembered(out, lost_nacked::read(words, 0))?;
+        }
+        Ok(())
     }
-    Ok(())
-}
 
-pub(crate) fn write<W: Write>(out: &mut W, receiver: &Receiver) -> io::Result<()> {
-    summary(out, &receiver.session)?;
-    entry_lines(out, receiver)?;
-    gap_lines(out, receiver)?;
-    remembered_lines(out, receiver)
+    // What `state` is answered.
+    pub(crate) fn write_state<W: Write>(&self, out: &mut W) -> io::Result<()> {
+        summary(out, &self.session)?;
+        self.entry_lines(out)?;
+        self.gap_lines(out)?;
+        self.remembered_lines(out)
+    }
 }

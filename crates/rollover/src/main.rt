@@ -11,6 +11,7 @@ trait Cut {
     const WIDTH: u32;
 
     // `number` cut to the width, and what the reference extends that to.
+    // Stays: the method and its two impls are the three; a struct of the two numbers would have no method but this.
     fn extended(reference: u64, number: u64) -> (u64, u64);
 
     final fn cycle() -> u64 {
@@ -21,7 +22,7 @@ trait Cut {
 impl Cut for SequenceNumber {
     const WIDTH: u32 = 16;
 
-    // Stays: one impl of the trait to a width.
+    // Stays: `truncated` and `guess_extended` would have to be methods of a trait in `rtp`, for this one caller.
     fn extended(reference: u64, number: u64) -> (u64, u64) {
         let cut = ExtendedSequenceNumber(number).truncated();
         let extended = ExtendedSequenceNumber(reference).guess_extended(cut);
@@ -32,6 +33,7 @@ impl Cut for SequenceNumber {
 impl Cut for RtpTimestamp {
     const WIDTH: u32 = 32;
 
+    // Stays: `truncated` and `guess_extended` would have to be methods of a trait in `rtp`, for this one caller.
     fn extended(reference: u64, number: u64) -> (u64, u64) {
         let cut = ExtendedRtpTimestamp(number).truncated();
         let extended = ExtendedRtpTimestamp(reference).guess_extended(cut);

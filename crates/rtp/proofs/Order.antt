@@ -3,7 +3,7 @@ use mathlib.Core.Path.{◌≡◌}
 use Prim.Native.Nat.{ℕ}
 use lib.Dec.{leb, ltb}
 use Rattle.std.proofs.Common.{arith}
-use Rattle.std.specs.Ordering.{nat_cmp, is_lt, is_le, MatchOrdering}
+use Rattle.std.specs.Ordering.{nat_cmp, is_lt, is_le}
 use Rattle.std.specs.Cmp.{nat_cmp_is}
 
 pub less : (a b : ℕ) → is_lt (nat_cmp a b) ≡ ltb a b

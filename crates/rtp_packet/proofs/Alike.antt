@@ -1,12 +1,12 @@
 -- Datagrams that differ in the second byte, the number, the timestamp or the SSRC alone: no check before that of the payload type tells them apart,
 -- since those read the first byte and what stands after the twelfth.
 use mathlib.Core.Path.{◌≡◌, refl}
-use mathlib.Core.Bool.{Bool, true, false, cond, ◌||◌}
+use mathlib.Core.Bool.{Bool, true, false, cond}
 use mathlib.Core.List.{List}
 use Prim.Native.Nat.{ℕ, ◌+◌, ◌-◌, ◌≤◌, ◌<◌}
 use native.Mathlib.Omega.{arith}
 use lib.ListN.{length}
-use borrow.Author.Tests.{leb-false}
+use Rattle.std.proofs.lemmas.Bool.{leb-false, or_parts}
 use Rattle.rtp_packet.specs.Header.{byte, bit, big_endian, padding, extension_start, extension_length, header_length, padding_length, payload_end, payload_of}
 use Rattle.rtp_packet.specs.Datagram.{wrong_padding}
 use Rattle.rtp_packet.proofs.BigEndian.{big_endian-same}
@@ -29,11 +29,7 @@ header_ge d = omega (arith, start_ge d)
 -- a padding that the check passes ends with a byte after the header
 padded_past : (d : List ℕ) → padding d ≡ true → wrong_padding d ≡ false → header_length d < length d
 unfolding wrong_padding
-padded_past d p w = leb-false _ _ (or_left _ _ (or_left _ _ (rw p at w)))
-  where
-    or_left : (a b : Bool) → (a || b) ≡ false → a ≡ false
-    or_left true b e = e
-    or_left false b e = refl
+padded_past d p w = leb-false _ _ (or_parts _ _ (or_parts _ _ (rw p at w)).0).0
 
 module _ (d e : List ℕ) (a : Alike d e) where
   same_bit : (k : ℕ) → bit 0 k e ≡ bit 0 k d

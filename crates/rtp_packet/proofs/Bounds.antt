@@ -6,7 +6,7 @@ use Prim.Native.Nat.{ℕ, ◌-◌, ◌≤◌, ◌<◌}
 use native.Mathlib.Omega.{arith}
 use lib.Dec.{eqb, leb, ltb}
 use lib.ListN.{length, length-take, length-drop}
-use borrow.Author.Tests.{ltb-false}
+use Rattle.std.proofs.lemmas.Bool.{ltb-false, or_parts}
 use Rattle.rtp_packet.specs.Header.{bit, padding, header_length, padding_length, payload_end, between, payload_of}
 use Rattle.rtp_packet.specs.Datagram.{wrong_padding, datagram_refusal, packet_of}
 use Rattle.rtp_packet.specs.Original.{original_payload}
@@ -40,12 +40,8 @@ pub padding-fits : (d : List ℕ) → header_length d ≤ length d → wrong_pad
 unfolding wrong_padding payload_end padding_length
 padding-fits d h = by_bit (padding d) _ (length d) (header_length d) h
   where
-    or_right : (a b : Bool) → (a || b) ≡ false → b ≡ false
-    or_right true b e = let z : true ≡ false = e in cc
-    or_right false b e = e
-
     by_bit : (p : Bool) (n l h : ℕ) → h ≤ l → (p && (leb l h || eqb (cond p n 0) 0 || ltb (l - h) (cond p n 0))) ≡ false → h ≤ l - cond p n 0
-    by_bit true n l h le e = omega (arith, ltb-false (l - h) n (or_right (leb l h || eqb n 0) (ltb (l - h) n) e))
+    by_bit true n l h le e = omega (arith, ltb-false (l - h) n (or_parts (leb l h || eqb n 0) (ltb (l - h) n) e).1)
     by_bit false n l h le e = omega arith
 
 -- the payload of a datagram that was accepted for payloads of so many bytes

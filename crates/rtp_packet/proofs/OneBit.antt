@@ -1,22 +1,18 @@
 -- The one_bit law. A version bit leaves the length, so check 3 sees it; a bit of payload type or SSRC leaves a datagram that is alike, so the
 -- checks before 6 and 7 pass again.
-use mathlib.Core.Path.{◌≡◌, refl, sym, ◌∙◌}
-use mathlib.Core.Bool.{Bool, true, false, ◌&&◌}
+use mathlib.Core.Path.{◌≡◌, sym, ◌∙◌}
+use mathlib.Core.Bool.{◌&&◌}
 use mathlib.Core.List.{List}
 use Prim.Native.Nat.{ℕ, ◌≤◌}
 use native.Mathlib.Omega.{arith}
 use lib.Dec.{eqb, leb}
-use borrow.Author.Tests.{eqb-true, leb-true}
+use Rattle.std.proofs.lemmas.Bool.{eqb-true, leb-true, and_parts}
 use Rattle.refusals.specs.Refusals.{VERSION, payload_type, SSRC}
 use Rattle.rtp_packet.specs.OneBit.{flip_bit, in_version, in_payload_type, in_ssrc, Refuses, OneBit}
 use Rattle.rtp_packet.proofs.BigEndian.{big_endian_differs}
 use Rattle.rtp_packet.proofs.Refused.{accepted, wrong_version, wrong_type, wrong_ssrc}
 use Rattle.rtp_packet.proofs.Alike.{Alike, same_whole, same_size}
 use Rattle.rtp_packet.proofs.Flip.{flipped_differs, flipped-version, flipped_type, flip_length, flip_at_lem, flip_other}
-
-both : (a b : Bool) → (a && b) ≡ true → (a ≡ true) × (b ≡ true)
-both true b e = (refl, e)
-both false b e = let z : ◌≡◌ {A = ℕ} 0 1 = cc in absurd (omega arith)
 
 -- a bit of the second byte or of the SSRC
 alike : (i k : ℕ) (d : List ℕ) → 1 ≤ i → i ≤ 11 → Alike d (flip_bit i k d)
@@ -30,7 +26,7 @@ of_version : Refuses in_version VERSION
 unfolding in_version
 of_version t s m d e i k g =
     let w = (accepted t s m d e).whole in
-    let at_i = both (eqb i 0) (leb 6 k) (both (eqb i 0 && leb 6 k) (leb k 7) g).0 in
+    let at_i = and_parts (eqb i 0) (leb 6 k) (and_parts (eqb i 0 && leb 6 k) (leb k 7) g).0 in
     let zeroth : i ≡ 0 = eqb-true i 0 at_i.0 in
     let high : 6 ≤ k = leb-true 6 k at_i.1 in
     rw zeroth
@@ -42,8 +38,8 @@ unfolding in_payload_type
 of_type t s m d e i k g =
     let a = accepted t s m d e in
     let w = a.whole in
-    let first : i ≡ 1 = eqb-true i 1 (both (eqb i 1) (leb k 6) g).0 in
-    let low : k ≤ 6 = leb-true k 6 (both (eqb i 1) (leb k 6) g).1 in
+    let first : i ≡ 1 = eqb-true i 1 (and_parts (eqb i 1) (leb k 6) g).0 in
+    let low : k ≤ 6 = leb-true k 6 (and_parts (eqb i 1) (leb k 6) g).1 in
     let like = alike 1 k d (omega arith) (omega arith) in
     rw first
     (wrong_type t s m (flip_bit 1 k d) (same_whole d (flip_bit 1 k d) like w) (rw (same_size d (flip_bit 1 k d) like w.right_padding) a.payload-fits)
@@ -54,7 +50,7 @@ unfolding in_ssrc
 of_ssrc t s m d e i k g =
     let a = accepted t s m d e in
     let w = a.whole in
-    let at_i = both (leb 8 i) (leb i 11) (both (leb 8 i && leb i 11) (leb k 7) g).0 in
+    let at_i = and_parts (leb 8 i) (leb i 11) (and_parts (leb 8 i && leb i 11) (leb k 7) g).0 in
     let lo : 8 ≤ i = leb-true 8 i at_i.0 in
     let hi : i ≤ 11 = leb-true i 11 at_i.1 in
     let like = alike i k d (omega arith) hi in

@@ -7,7 +7,7 @@ use native.Mathlib.Omega.{arith}
 use lib.Dec.{eqb, leb, ltb}
 use lib.ListN.{length, take, drop, length-take, length-drop, drop_of_length-le}
 use lib.Seq.{drop-cons, drop-length, drop-drop, take-add}
-use borrow.Author.Tests.{eqb-true, eqb-false, ltb-false}
+use Rattle.std.proofs.lemmas.Bool.{eqb-true, eqb-false, ltb-false, or_parts}
 use Rattle.rtp_packet.specs.Header.{byte, bit, big_endian, padding, extension, csrc_count, extension_start, extension_length, header_length, padding_length, payload_end, between, payload_of}
 use Rattle.rtp_packet.specs.Datagram.{wrong_padding}
 use Rattle.rtp_packet.specs.Layout.{no_extension, extended, no_padding, padded, Fits, ExtensionFits, PaddingFits, EachBelow, extension_bit, padding_bit, weight, bytes_of, word_bytes, first_byte, second_byte, extension_bytes, padding_bytes, rest_of, laid_out_of, words_at, extension_of, padding_of, fields_of}
@@ -114,18 +114,11 @@ module _ (d : List ℕ) (small : EachBelow 256 d) (whole : Whole d) where
       rw p at whole.right_padding in
       rw p (counts (leb (length d) (header_length d)) (length d) (header_length d) (byte d (length d - 1)) t)
     where
-      left : (a b : Bool) → (a || b) ≡ false → a ≡ false
-      left true b e = e
-      left false b e = refl
-
-      after : (a b : Bool) → (a || b) ≡ false → b ≡ false
-      after true b e = let z : true ≡ false = e in cc
-      after false b e = e
-
       counts : (a : Bool) (l h c : ℕ) → (a || eqb c 0 || ltb (l - h) c) ≡ false → (1 ≤ c) × (c ≤ l) × (c ≡ c)
       counts a l h c e =
-          let some : c ≡ 0 → ⊥ = eqb-false c 0 (after a (eqb c 0) (left (a || eqb c 0) (ltb (l - h) c) e)) in
-          let most : c ≤ l - h = ltb-false (l - h) c (after (a || eqb c 0) (ltb (l - h) c) e) in
+          let p = or_parts (a || eqb c 0) (ltb (l - h) c) e in
+          let some : c ≡ 0 → ⊥ = eqb-false c 0 (or_parts a (eqb c 0) p.0).1 in
+          let most : c ≤ l - h = ltb-false (l - h) c p.1 in
           (omega arith, omega arith, refl)
 
   uncounted : padding d ≡ false → padding_length d ≡ 0

@@ -12,7 +12,8 @@ pub(crate) fn byte_at(d: &[u8], i: usize) -> u8
 }
 
 // The number in `width` bytes from `at` on, the most significant first.
-#[tactic(auto, using(crate::proofs::BigEndian::big_endian_next))]
+// Stays: a byte past the end reads 0, so that the part cannot be cut and lent; each call writes the two as numerals of the picture.
+#[tactic(auto, using(crate::proofs::BigEndian::big_endian_next), unfolding(crate::specs::Header::big_endian))]
 pub(crate) fn big_endian(d: &[u8], at: usize, width: usize) -> u32
     requires at_bound { at ≤ 1000 }
     requires width_bound { width ≤ 4 }
@@ -20,6 +21,7 @@ pub(crate) fn big_endian(d: &[u8], at: usize, width: usize) -> u32
     ensures upper_bound { result < 256 ^ width }
 {
     let mut number: u32 = 0;
+    // Stays: a byte past the end reads 0, which no part of the slice has.
     for i in 0..width {
         number = number * 256 + u32::from(byte_at(d, at + i));
     }

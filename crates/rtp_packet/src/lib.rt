@@ -21,6 +21,7 @@ pub const LARGEST_PAYLOAD: usize = 320;
 pub const LARGEST_REPAIR: usize = 322;
 
 // What the header says; the payload is the datagram's bytes from start up to end.
+// Stays: `packet_of` has the two places; with the payload lent as a part the lemmas on places would stay, and one on parts would come.
 #[derive(Clone, Copy)]
 pub struct RtpPacket {
     pub pt: u8,
@@ -33,13 +34,15 @@ pub struct RtpPacket {
 }
 
 // A media packet, and a repair, for a session that expects this payload type and SSRC.
-// Stays: two names for two bounds; what they share is `parse`.
+// Stays: with `parse` alone four calls in two crates would each name a bound that has to fit the kind of packet; and the caller has payload
+// type and SSRC among the five fields of `Senders`.
 pub fn parse_media(datagram: &[u8], pt: u8, ssrc: Ssrc) -> Result<RtpPacket, Refusal>
     ensures { numbered result ≡ parsed pt ssrc.0 largest_payload datagram.now }
 {
     parse(datagram, pt, ssrc, LARGEST_PAYLOAD)
 }
 
+// Stays: the caller has the two among the five fields of `Senders`; a struct of them would be built for the call that takes it apart.
 pub fn parse_repair(datagram: &[u8], pt: u8, ssrc: Ssrc) -> Result<RtpPacket, Refusal>
     ensures { numbered result ≡ parsed pt ssrc.0 largest_repair datagram.now }
 {
@@ -47,6 +50,7 @@ pub fn parse_repair(datagram: &[u8], pt: u8, ssrc: Ssrc) -> Result<RtpPacket, Re
 }
 
 // The packet in a datagram, with a payload of at most `largest` bytes.
+// Stays: the two come from five fields of `Senders`; a struct of them would be built for the one call that takes it apart.
 #[tactic(auto, using(refusals::proofs::Laws::passed_on, refusals::proofs::Laws::refused_unless, refusals::proofs::Laws::accepted_unless), unfolding(crate::specs::Datagram::parsed))]
 pub fn parse(datagram: &[u8], pt: u8, ssrc: Ssrc, largest: usize) -> Result<RtpPacket, Refusal>
     ensures { numbered result ≡ parsed pt ssrc.0 largest datagram.now }
@@ -57,6 +61,7 @@ pub fn parse(datagram: &[u8], pt: u8, ssrc: Ssrc, largest: usize) -> Result<RtpP
 
 // The Datagram rows of 01's table, downwards. Payload type and SSRC are those of the datagram's own header: a repair is rewritten only
 // after it was read.
+// Stays: the two are compared one by one, and come from five fields of `Senders`; a struct of them would be built for this call.
 #[tactic(auto, using(crate::proofs::Bounds::sized), unfolding(crate::specs::Datagram::datagram_refusal, refusals::specs::Refusals::refuse_if, refusals::specs::Refusals::or_else))]
 fn check_datagram(datagram: &[u8], pt: u8, ssrc: Ssrc, largest: usize) -> Result<(), Refusal>
     ensures { refusal_of result ≡ datagram_refusal pt ssrc.0 largest datagram.now }
@@ -92,18 +97,10 @@ fn check_datagram(datagram: &[u8], pt: u8, ssrc: Ssrc, largest: usize) -> Result
 fn wrong_padding(datagram: &[u8]) -> bool
     ensures { result ≡ wrong_padding datagram.now }
 {
-    if !header::has_padding(datagram) {
-        return false;
-    }
     let start = header::header_length(datagram);
     let count = header::padding_length(datagram);
-    if datagram.len() <= start {
-        return true;
-    }
-    if count == 0 {
-        return true;
-    }
-    datagram.len() - start < count
+    header::has_padding(datagram)
+        && (datagram.len() <= start || count == 0 || datagram.len() - start < count)
 }
 
 #[tactic(auto, unfolding(crate::specs::Datagram::packet_of))]

@@ -10,11 +10,12 @@ use Rattle.std.specs.Prelude.{Option, Some}
 use Rattle.rtx_state.specs.RoundTrip.{opt_rtt_in_range}
 use Rattle.model.specs.declared.Received.{Received}
 use Rattle.config.specs.declared.NackTimings.{NackTimings}
-use Rattle.config.specs.Valid.{settings_valid}
+use Rattle.config.specs.Valid.{longest, settings_valid}
+use Rattle.config.proofs.Bounds.{delay-le}
 use Rattle.config.proofs.Facts.{usable}
 use Rattle.model.specs.declared.Queue.{Queue}
 use Rattle.model.specs.Rules.{estimate_in, timings_in}
-use Rattle.model.specs.Poll.{timings_of}
+use Rattle.model.specs.Poll.{estimate_of, timings_of, delay_of}
 use Rattle.model.specs.Valid.{last_sound}
 use Rattle.packet_gaps.specs.Gaps.{Small}
 use Rattle.packet_gaps.proofs.Model.{small-timings}
@@ -34,6 +35,11 @@ pub estimate_in_lem : (rtx : Bool) (rtt : Option RtxRtt) → T (opt_rtt_in_range
 unfolding estimate_in opt_rtt_in_range
 estimate_in_lem true rtt t = t
 estimate_in_lem false rtt t = tt
+
+-- valid settings give a delay of a minute at most
+pub delay_bound : (q : Queue) → T (settings_valid q.config.settings) → delay_of q ≤ longest
+unfolding delay_of
+delay_bound q v = delay-le q.config.settings q.jitter q.loss (estimate_of q) v
 
 -- valid settings and an estimate in range give small timings
 pub timings-small : (q : Queue) (t : NackTimings) → t ≡ timings_of q → T (settings_valid q.config.settings) → T (opt_rtt_in_range q.rtx.rtt) → Small t

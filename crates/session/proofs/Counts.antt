@@ -39,3 +39,24 @@ module _ (v : ℕ) (vs : List ℕ) where
 
   pub count_passed : 0 ≡ count_refusal (v ∷ []) → count_refusal vs ≡ count_refusal (v ∷ vs)
   count_passed h = sym (by_first ∙ or_else_second _ (count_refusal vs) (sym h))
+
+-- two values that were tested before the others
+module _ (v w : ℕ) (vs : List ℕ) where
+  by_pair : count_refusal (v ∷ w ∷ vs) ≡ or_else (count_refusal (v ∷ w ∷ [])) (count_refusal vs)
+  unfolding count_refusal some? refuse_if or_else
+  by_pair = go (ltb largest v) (ltb largest w)
+    where
+      go : (a b : Bool) → cond (a || (b || some? (ltb largest) vs)) COUNT 0 ≡ cond (eqb (cond (a || (b || false)) COUNT 0) 0) (cond (some? (ltb largest) vs) COUNT 0) (cond (a || (b || false)) COUNT 0)
+      go true b = refl
+      go false true = refl
+      go false false = refl
+
+  pub pair_refused : (e : Refusal) → number e ≡ count_refusal (v ∷ w ∷ []) → number e ≡ count_refusal (v ∷ w ∷ vs)
+  pair_refused e h = or_else_refused e (count_refusal vs) h ∙ sym by_pair
+
+  pub pair_passed : 0 ≡ count_refusal (v ∷ w ∷ []) → count_refusal vs ≡ count_refusal (v ∷ w ∷ vs)
+  pair_passed h = sym (by_pair ∙ or_else_second _ (count_refusal vs) (sym h))
+
+-- ---- what the checks have to know
+
+pub ruleset counts = (count_none, count_here, count_past, count_refused, count_passed, pair_refused, pair_passed)

@@ -1,5 +1,6 @@
-// The parts of the queue (000) that need no storage: what a call makes of the records that go by value, and which check turns it back by the
-// values that it works out. Each function is one definition of `model`.
+// The parts of the queue (000) that need no storage: what a call makes of the records that go by value, and which check turns it back by
+// the values that it works out. Each function is one definition of `model`. Functions and not methods: `Queue` is of `model`, and an
+// inherent impl stands in its type's crate.
 #![tactic(auto, unfolding(model::specs::Push::extended_number, model::specs::Push::extended_timestamp, model::specs::Records::highest_of, model::specs::Records::last_timestamp_of, model::specs::Rules::extended, model::specs::Push::heard, model::specs::Push::jitter_after, model::specs::Poll::lose, model::specs::Poll::count_lost))]
 
 ghost use Rattle.std.specs.Prelude.{◌≡◌, ◌+◌, ◌<◌, ◌^◌};
@@ -7,7 +8,7 @@ ghost use Rattle.rtp.specs.Opt as Opt;
 ghost use Rattle.model.specs.Push as Push;
 ghost use Rattle.model.specs.Poll as Poll;
 
-use model::{Counters, Queue};
+use model::{Counters, Queue, Received};
 use rtp::{ExtendedRtpTimestamp, ExtendedSequenceNumber, RtpTimestamp, SequenceNumber};
 
 pub mod nack;
@@ -49,20 +50,23 @@ pub fn passed(q: Queue, number: ExtendedSequenceNumber) -> bool
 }
 
 // The clock and the jitter follow every media packet, also one that is then dropped.
-pub fn heard(q: Queue, now: u64, timestamp: ExtendedRtpTimestamp) -> Queue
-    ensures { result ≡ Push.heard now timestamp.0 q }
+// Stays: the queue goes by value and comes back changed by this; a type of both would be made at each call and taken apart here.
+pub fn heard(q: Queue, got: Received) -> Queue
+    ensures { result ≡ Push.heard got.instant got.timestamp.0 q }
 {
+    let now = got.instant;
     match q.last {
         None => Queue { clock: now, ..q },
         Some(r) => Queue {
             clock: now,
-            jitter: q.jitter.update(now, timestamp, r.instant, r.timestamp),
+            jitter: q.jitter.update(now, got.timestamp, r.instant, r.timestamp),
             ..q
         },
     }
 }
 
 // n numbers became lost.
+// Stays: a bound of a queue and one call's number, which check 16 gives; a queue that C hands over need not meet it.
 pub fn lose(q: Queue, n: u64) -> Queue
     requires { q.counters.lost + n < 2 ^ 64 }
     ensures { result ≡ Poll.lose n q }

@@ -19,13 +19,14 @@ use rtp::{ExtendedRtpTimestamp, ExtendedSequenceNumber};
 
 // 14, for the numbers lost.
 pub fn check_lost(q: Queue, lost: u64) -> Result<(), Refusal>
-    requires { q.counters.lost + lost < 2 ^ 64 }
     ensures { refusal_of result ≡ Table.count_refusal ((q.counters.lost + lost) ∷ []) }
 {
-    super::push::check_count(q.counters.lost + lost)
+    super::push::check_sum(q.counters.lost, lost)
 }
 
 // The clock, and the numbers that are given up before anything else is done.
+// Stays: the queue comes back with the instant in it, so a type of both would be made at each call and taken apart here; and the bound is
+// of a queue and one call's number, and a queue that C hands over need not meet it.
 pub fn drained(q: Queue, now: u64, lost: u64) -> Queue
     requires { q.counters.lost + lost < 2 ^ 64 }
     ensures { result ≡ Poll.lose lost (Records.with_clock q now) }
@@ -34,6 +35,7 @@ pub fn drained(q: Queue, now: u64, lost: u64) -> Queue
 }
 
 // The entry of the number goes out, and the gaps below it are lost.
+// Stays: a bound of a queue and one call's number, which check 16 gives; a queue that C hands over need not meet it.
 pub fn handed_out(q: Queue, lost: u64, number: ExtendedSequenceNumber) -> Queue
     requires { q.counters.lost + lost < 2 ^ 64 }
     ensures { result ≡ Poll.queue_handed_out number.0 lost q }
@@ -54,6 +56,7 @@ pub fn target_delay(q: Queue) -> u64
 }
 
 // Whether an entry of the timestamp goes out where it is the first and packets are kept for the delay.
+// Stays: the instant is of the call, the timestamp of lent words and the delay of the session; a type of two would be built for each call.
 pub fn ready(q: Queue, delay: u64, now: u64, timestamp: ExtendedRtpTimestamp) -> bool
     requires in_time { (q.clock ≤ now) × (now ≤ largest) × (delay ≤ longest) }
     requires valid_settings { T (settings_valid q.config.settings) }
@@ -66,9 +69,15 @@ pub fn ready(q: Queue, delay: u64, now: u64, timestamp: ExtendedRtpTimestamp) ->
         RtpInboundQueueMode::SortedQueue(_) => match q.last {
             None => false,
             Some(r) => {
-                let rate = settings.clock_rate;
-                let limit = handout::max_timestamp(r.instant, r.timestamp, rate, delay, now);
-                limit.is_some_and(|max| timestamp <= max)
+                let sorted = handout::SortedQueue {
+                    last_instant: r.instant,
+                    last_timestamp: r.timestamp,
+                    clock_rate: settings.clock_rate,
+                    delay,
+                };
+                sorted
+                    .max_timestamp(now)
+                    .is_some_and(|max| timestamp <= max)
             }
         },
     }

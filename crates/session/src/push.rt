@@ -1,5 +1,5 @@
 // `push` (000) on the records that go by value: what is counted, and which check turns a media packet back.
-#![tactic(auto, unfolding(crate::specs::Place::place, model::specs::Rules::waits, model::specs::Push::last_after, model::specs::Push::count_dropped, model::specs::Push::count_received, model::specs::Push::heard, model::specs::Table::too_many_gaps, refusals::specs::Refusals::refuse_if))]
+#![tactic(auto, using(crate::proofs::Counts::counts), unfolding(crate::specs::Place::place, model::specs::Rules::waits, model::specs::Push::last_after, model::specs::Push::count_dropped, model::specs::Push::count_received, model::specs::Push::heard, model::specs::Table::too_many_gaps, model::specs::Table::media_values, refusals::specs::Refusals::refuse_if))]
 
 ghost use Rattle.refusals.specs.Refusals.{refusal_of};
 ghost use Rattle.std.specs.Prelude.{◌≡◌, ◌&&◌, [], ◌∷◌, ◌+◌, ◌-◌, ◌<◌, ◌≤◌, leb, ltb};
@@ -34,21 +34,11 @@ pub fn waits(place: Place) -> bool
 }
 
 // Forward progress only.
-fn last_after(
-    last: Option<Received>,
-    now: u64,
-    timestamp: ExtendedRtpTimestamp,
-    number: ExtendedSequenceNumber,
-    place: Place,
-) -> Option<Received>
-    ensures { result ≡ Push.last_after now timestamp.0 number.0 (Spec.place place) last }
+fn last_after(last: Option<Received>, got: Received, place: Place) -> Option<Received>
+    ensures { result ≡ Push.last_after got.instant got.timestamp.0 got.number.0 (Spec.place place) last }
 {
     match place {
-        Place::First | Place::Near(_) | Place::Far(_) => Some(Received {
-            instant: now,
-            timestamp,
-            number,
-        }),
+        Place::First | Place::Near(_) | Place::Far(_) => Some(got),
         Place::Fills | Place::Other => last,
     }
 }
@@ -75,11 +65,12 @@ fn count_received(c: Counters, size: u64) -> Counters
 }
 
 // The queue after a packet that is dropped.
-pub fn dropped(q: Queue, now: u64, timestamp: ExtendedRtpTimestamp) -> Queue
+// Stays: the queue goes by value and comes back changed by this; a type of both would be made at each call and taken apart here.
+pub fn dropped(q: Queue, got: Received) -> Queue
     requires { q.counters.dropped < largest }
-    ensures { result ≡ Push.queue_dropped now timestamp.0 q }
+    ensures { result ≡ Push.queue_dropped got.instant got.timestamp.0 q }
 {
-    let heard = super::heard(q, now, timestamp);
+    let heard = super::heard(q, got);
     Queue {
         counters: count_dropped(q.counters),
         ..heard
@@ -87,22 +78,16 @@ pub fn dropped(q: Queue, now: u64, timestamp: ExtendedRtpTimestamp) -> Queue
 }
 
 // The queue after a packet that is queued.
-pub fn queued(
-    q: Queue,
-    now: u64,
-    timestamp: ExtendedRtpTimestamp,
-    number: ExtendedSequenceNumber,
-    size: u64,
-    place: Place,
-) -> Queue
+// Stays: the queue goes by value and comes back changed by this; a type of both would be made at each call and taken apart here.
+pub fn queued(q: Queue, got: Received, size: u64, place: Place) -> Queue
     requires { (q.counters.received < largest) × (q.counters.bytes + size ≤ largest) }
-    ensures { result ≡ Push.queue_queued now timestamp.0 number.0 size (Spec.place place) q }
+    ensures { result ≡ Push.queue_queued got.instant got.timestamp.0 got.number.0 size (Spec.place place) q }
 {
     Queue {
-        last: last_after(q.last, now, timestamp, number, place),
+        last: last_after(q.last, got, place),
         counters: count_received(q.counters, size),
         loss: q.loss.record_received(),
-        ..super::heard(q, now, timestamp)
+        ..super::heard(q, got)
     }
 }
 
@@ -119,7 +104,6 @@ pub fn pushed_out(q: Queue, number: ExtendedSequenceNumber) -> Queue
 }
 
 // 14, "would pass 2^52 − 1", for one value.
-#[tactic(auto, using(crate::proofs::Counts::count_none, crate::proofs::Counts::count_here, crate::proofs::Counts::count_past))]
 pub fn check_count(value: u64) -> Result<(), Refusal>
     ensures { refusal_of result ≡ Table.count_refusal (value ∷ []) }
 {
@@ -130,7 +114,6 @@ pub fn check_count(value: u64) -> Result<(), Refusal>
 }
 
 // 14 for a counter that would go up by one.
-#[tactic(auto, using(crate::proofs::Counts::count_none, crate::proofs::Counts::count_here, crate::proofs::Counts::count_past))]
 pub fn check_next_count(value: u64) -> Result<(), Refusal>
     ensures { refusal_of result ≡ Table.count_refusal ((value + 1) ∷ []) }
 {
@@ -140,16 +123,24 @@ pub fn check_next_count(value: u64) -> Result<(), Refusal>
     Ok(())
 }
 
+// 14 for a sum. One past 64 bits is past the largest as well.
+pub fn check_sum(count: u64, more: u64) -> Result<(), Refusal>
+    ensures { refusal_of result ≡ Table.count_refusal ((count + more) ∷ []) }
+{
+    if LARGEST < count.saturating_add(more) {
+        return Err(Refusal::Count);
+    }
+    Ok(())
+}
+
 // 14 for what a packet would raise; `full` says that the front entry would be pushed out.
 // Stays: a packet that waits and a full queue are what the law counts by.
-#[tactic(auto, using(crate::proofs::Counts::count_none, crate::proofs::Counts::count_refused, crate::proofs::Counts::count_passed), unfolding(model::specs::Table::media_values))]
 fn check_counters(c: Counters, size: u64, waits: bool, full: bool) -> Result<(), Refusal>
-    requires { (c.bytes ≤ largest) × (size ≤ largest) }
     ensures { refusal_of result ≡ Table.count_refusal (Table.media_values c size waits full) }
 {
     if waits {
         check_next_count(c.received)?;
-        check_count(c.bytes + size)?;
+        check_sum(c.bytes, size)?;
         if !full {
             return Ok(());
         }
@@ -157,8 +148,20 @@ fn check_counters(c: Counters, size: u64, waits: bool, full: bool) -> Result<(),
     check_next_count(c.dropped)
 }
 
+// 14 for what a packet or a repair works out, its timestamp and number.
+// Stays: `entries::Entry` has both, which stands above this crate; a type of the two would be made at each call and taken apart here.
+pub(crate) fn check_entry(
+    timestamp: ExtendedRtpTimestamp,
+    number: ExtendedSequenceNumber,
+) -> Result<(), Refusal>
+    ensures { refusal_of result ≡ Table.count_refusal (timestamp.0 ∷ number.0 ∷ []) }
+{
+    check_count(timestamp.0)?;
+    check_count(number.0)
+}
+
 // 14 for what a packet works out, its timestamp and number, and for the counters that it would raise.
-#[tactic(auto, using(crate::proofs::Counts::count_none, crate::proofs::Counts::count_refused, crate::proofs::Counts::count_passed), unfolding(model::specs::Table::media_values))]
+// Stays: `entries::Entry` has both, which stands above this crate; a type of the two would be made at each call and taken apart here.
 pub fn check_counts(
     c: Counters,
     timestamp: ExtendedRtpTimestamp,
@@ -167,11 +170,9 @@ pub fn check_counts(
     waits: bool,
     full: bool,
 ) -> Result<(), Refusal>
-    requires { (c.bytes ≤ largest) × (size ≤ largest) }
     ensures { refusal_of result ≡ Table.count_refusal (timestamp.0 ∷ number.0 ∷ Table.media_values c size waits full) }
 {
-    check_count(timestamp.0)?;
-    check_count(number.0)?;
+    check_entry(timestamp, number)?;
     check_counters(c, size, waits, full)
 }
 

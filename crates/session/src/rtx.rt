@@ -1,14 +1,13 @@
 // `push_rtx` (000) on the records that go by value: what is counted and sampled, and which check turns a repair back.
-#![tactic(auto, unfolding(crate::specs::Place::fate, model::specs::Rules::sampled_at, rtx_state::specs::Repair::update_rtt))]
+#![tactic(auto, using(crate::proofs::Counts::counts), unfolding(crate::specs::Place::fate, model::specs::Rules::sampled_at, rtx_state::specs::Repair::update_rtt, model::specs::Table::fate_values))]
 
 ghost use Rattle.refusals.specs.Refusals.{refusal_of};
-ghost use Rattle.std.specs.Prelude.{◌≡◌, ◌∷◌, ◌+◌, ◌≤◌};
-ghost use Rattle.durations.specs.Seconds.{largest};
+ghost use Rattle.std.specs.Prelude.{◌≡◌, ◌∷◌};
 ghost use Rattle.model.specs.Push as Push;
 ghost use Rattle.model.specs.Table as Table;
 ghost use Rattle.session.specs.Place as Spec;
 
-use super::push::{check_count, check_next_count};
+use super::push::{check_entry, check_next_count, check_sum};
 use model::Queue;
 use refusals::Refusal;
 use rtp::{ExtendedRtpTimestamp, ExtendedSequenceNumber};
@@ -23,16 +22,15 @@ pub enum Fate {
 }
 
 // One more sample, if the number was NACKed just once, at this instant.
+// Stays: a type of the two instants would be made by both callers, and this function is all that takes it.
 fn sampled(state: RtxState, now: u64, nacked: Option<u64>) -> RtxState
     ensures { result ≡ Push.sampled now nacked state }
 {
-    match nacked {
-        None => state,
-        Some(i) => state.update_rtt(now.saturating_sub(i)),
-    }
+    nacked.map_or(state, |i| state.update_rtt(now.saturating_sub(i)))
 }
 
 // The queue after a repair that came too late.
+// Stays: the queue goes by value and comes back with the instant in it; a type of both would be made at each call and taken apart here.
 pub fn too_late(q: Queue, now: u64, nacked: Option<u64>) -> Queue
     ensures { result ≡ Push.queue_too_late now nacked q }
 {
@@ -44,6 +42,7 @@ pub fn too_late(q: Queue, now: u64, nacked: Option<u64>) -> Queue
 }
 
 // The queue after a repair of a number that was not missing.
+// Stays: the queue goes by value and comes back with the instant in it; a type of both would be made at each call and taken apart here.
 pub fn redundant(q: Queue, now: u64) -> Queue
     ensures { result ≡ Push.queue_redundant now q }
 {
@@ -55,6 +54,7 @@ pub fn redundant(q: Queue, now: u64) -> Queue
 }
 
 // The queue after a repair that filled its gap.
+// Stays: the queue goes by value and comes back with the instant in it; a type of both would be made at each call and taken apart here.
 pub fn recovered(q: Queue, now: u64, nacked: Option<u64>, size: u64) -> Queue
     ensures { result ≡ Push.queue_recovered now nacked size q }
 {
@@ -67,9 +67,7 @@ pub fn recovered(q: Queue, now: u64, nacked: Option<u64>, size: u64) -> Queue
 }
 
 // 14 for what a repair would raise.
-#[tactic(auto, using(crate::proofs::Counts::count_none, crate::proofs::Counts::count_refused, crate::proofs::Counts::count_passed), unfolding(crate::specs::Place::fate, model::specs::Table::fate_values))]
 fn check_counters(rtx: RtxState, size: u64, fate: Fate) -> Result<(), Refusal>
-    requires { (rtx.bytes_received ≤ largest) × (size ≤ largest) }
     ensures { refusal_of result ≡ Table.count_refusal (Table.fate_values rtx size (Spec.fate fate)) }
 {
     match fate {
@@ -77,13 +75,13 @@ fn check_counters(rtx: RtxState, size: u64, fate: Fate) -> Result<(), Refusal>
         Fate::Redundant => check_next_count(rtx.received_redundant),
         Fate::Recovered => {
             check_next_count(rtx.received_in_time)?;
-            check_count(rtx.bytes_received + size)
+            check_sum(rtx.bytes_received, size)
         }
     }
 }
 
 // 14 for what a repair works out, its timestamp and number, and for the counters that it would raise.
-#[tactic(auto, using(crate::proofs::Counts::count_none, crate::proofs::Counts::count_refused, crate::proofs::Counts::count_passed), unfolding(crate::specs::Place::fate, model::specs::Table::fate_values))]
+// Stays: `entries::Entry` has both, which stands above this crate; a type of the two would be made at each call and taken apart here.
 pub fn check_counts(
     rtx: RtxState,
     timestamp: ExtendedRtpTimestamp,
@@ -91,10 +89,8 @@ pub fn check_counts(
     size: u64,
     fate: Fate,
 ) -> Result<(), Refusal>
-    requires { (rtx.bytes_received ≤ largest) × (size ≤ largest) }
     ensures { refusal_of result ≡ Table.count_refusal (timestamp.0 ∷ number.0 ∷ Table.fate_values rtx size (Spec.fate fate)) }
 {
-    check_count(timestamp.0)?;
-    check_count(number.0)?;
+    check_entry(timestamp, number)?;
     check_counters(rtx, size, fate)
 }

@@ -1,16 +1,18 @@
 -- The line that is written reads back, and no other of version 2 reads as the same settings: field by field, and each field by the law of
 -- `columns`.
 use mathlib.Core.Path.{◌≡◌, refl, sym, ap, ◌∙◌}
-use mathlib.Core.Bool.{Bool, true, false, cond, not, ◌&&◌, ◌||◌}
+use mathlib.Core.Bool.{Bool, true, false, cond, not, ◌&&◌}
 use mathlib.Core.List.{List, [], ◌∷◌, ◌++◌, append_assoc}
-use Prim.Native.Nat.{ℕ, ◌+◌, ◌*◌, ◌-◌, ◌≤◌, ◌<◌}
+use Prim.Native.Nat.{ℕ, ◌+◌, ◌*◌, ◌-◌, ◌^◌, ◌≤◌, ◌<◌}
 use native.Mathlib.Omega.{arith}
-use borrow.Author.Tests.{lt-ltb, le-ltb, le-leb, leb-true, eq-eqb, ne_eqb, eqb-true}
+use Rattle.std.proofs.lemmas.Bool.{lt-ltb, le-ltb, le-leb, leb-true, eq-eqb, ne_eqb, eqb-true, and_parts}
 use lib.Dec.{leb, ltb, eqb}
 use lib.ListN.{length, take, drop, get_or, set, replicate, length-append, length-take, length-drop, take-append-drop, drop_of_length-le}
 use lib.Seq.{take_at, take_all, drop_at, drop-drop, drop-cons, get_or_at, length-take-le}
-use Rattle.words.specs.Words.{over}
-use Rattle.words.proofs.Over.{take-over, over_more}
+use Rattle.words.specs.Words.{over, written}
+use borrow.Rule.Slice.PartMut.{mid_of, put_mid}
+use Rattle.words.proofs.Over.{take-over, over_more, length_over}
+use Rattle.words.proofs.Moves.{written_next, part_written}
 use Rattle.columns.specs.Columns.{decimal_up_to, justified, field_number}
 use Rattle.std.specs.Prelude.{None, Some, Option, Ok, Err}
 use Rattle.columns.proofs.Filling.{length-justified}
@@ -22,7 +24,7 @@ use Rattle.settings_line.specs.Fields.{numbers_of, settings_of, zeros_outside, l
 use Rattle.settings_line.specs.Line.{fields, line_of, outcome, write_line, same, begins, numbers_in, line_numbers, taken, without_window, read_first, read_second, read_line}
 use Rattle.settings_line.specs.Claims.{Only, AsTheOpening}
 use Rattle.settings_line.proofs.Numbered.{length_fields, numbers-back, Readable, numbers-only}
-use Rattle.settings_line.proofs.Ranges.{both, mode_most, settings_back, numbers_again, first_eight, numbers-held, narrow}
+use Rattle.settings_line.proofs.Ranges.{mode_most, settings_back, numbers_again, first_eight, numbers-held, narrow}
 
 -- ---- the version's field
 
@@ -36,7 +38,7 @@ unfolding same
 same-eq [] [] e = refl
 same-eq [] (b ∷ t) e = absurd (let z : ◌≡◌ {A = ℕ} 0 1 = cc in omega arith)
 same-eq (a ∷ s) [] e = absurd (let z : ◌≡◌ {A = ℕ} 0 1 = cc in omega arith)
-same-eq (a ∷ s) (b ∷ t) e = let h = both (eqb a b) (same s t) e in cc (eqb-true a b h.0, same-eq s t h.1)
+same-eq (a ∷ s) (b ∷ t) e = let h = and_parts (eqb a b) (same s t) e in cc (eqb-true a b h.0, same-eq s t h.1)
 
 one_digit : (v : ℕ) → v < 10 → replicate 11 32 ++ ((48 + v) ∷ []) ≡ justified 12 v
 unfolding justified decimal_up_to
@@ -127,7 +129,7 @@ module _ (s : Settings) where
   pub line_back : line_valid s ≡ true → read_line (line_of s) ≡ Ok s
   unfolding read_line read_second taken line_valid
   line_back e =
-      let b = both (settings_valid s) (zeros_outside (numbers_of s)) e in
+      let b = and_parts (settings_valid s) (zeros_outside (numbers_of s)) e in
       rw (other-version (line_of s) line_begins, line_begins, line_numbers_lem b.0, le-leb (get_or (numbers_of s) 0 0) 2 mode-first, b.1, settings_back s, b.0)
 
 pub made_back : (s : Settings) (out : List ℕ) → (write_line s out).answer ≡ Ok 145 → read_line (take 145 (write_line s out).output) ≡ Ok s
@@ -261,15 +263,12 @@ unfolding read_second
 second_taken o vs e = rw e
 
 -- a number that 32 bits do not hold is out of range
-pub too_wide : (version : ℕ) (ns : List ℕ) → (ltb 4294967295 (get_or ns 1 0) || ltb 4294967295 (get_or ns 7 0)) ≡ true → Err SETTINGS ≡ taken version ns
+pub too_wide : (version : ℕ) (ns : List ℕ) → ((get_or ns 1 0 < 2 ^ 32) × (get_or ns 7 0 < 2 ^ 32) → ⊥) → Err SETTINGS ≡ taken version ns
 unfolding taken
 too_wide version ns h = go (leb (get_or ns 0 0) version && zeros_outside ns) (settings_valid (settings_of ns)) refl
   where
     go : (x y : Bool) → settings_valid (settings_of ns) ≡ y → Err SETTINGS ≡ cond (x && y) (Ok (settings_of ns)) (Err SETTINGS)
-    go x true e =
-        let w = narrow ns e in
-        let f : false ≡ true = rw (le-ltb 4294967295 (get_or ns 1 0) (omega arith), le-ltb 4294967295 (get_or ns 7 0) (omega arith)) at h in
-        absurd (let z : ◌≡◌ {A = ℕ} 0 1 = cc in omega arith)
+    go x true e = let w = narrow ns e in absurd (h (omega (arith, w.0), omega (arith, w.1)))
     go true false e = refl
     go false false e = refl
 
@@ -284,13 +283,7 @@ second_unread o e = rw e
 
 -- ---- the writer's line, its line feed last
 
--- the version and the numbers, field by field
-pub by-fields : (s : Settings) (n : List ℕ) → n ≡ numbers_of s
-    → 2 ∷ get_or n 0 0 ∷ get_or n 1 0 ∷ get_or n 2 0 ∷ get_or n 3 0 ∷ get_or n 4 0 ∷ get_or n 5 0 ∷ get_or n 6 0 ∷ get_or n 7 0 ∷ get_or n 8 0 ∷ get_or n 9 0 ∷ get_or n 10 0 ∷ [] ≡ 2 ∷ numbers_of s
-unfolding numbers_of
-by-fields s n e = rw e
-
-pub fed : (s : Settings) (out : List ℕ) → 145 ≤ length out → set (over (fields (2 ∷ numbers_of s)) out) 144 10 ≡ over (line_of s) out
+fed : (s : Settings) (out : List ℕ) → 145 ≤ length out → set (over (fields (2 ∷ numbers_of s)) out) 144 10 ≡ over (line_of s) out
 unfolding line_of
 fed s out h =
     let q : List ℕ = fields (2 ∷ numbers_of s) ++ (10 ∷ []) in
@@ -300,5 +293,17 @@ fed s out h =
     let g : 10 ≡ get_or q 144 0 = sym (get_or_at (fields (2 ∷ numbers_of s)) 10 [] 0 144 l) in
     sym (ap (λ (x : List ℕ). set (over x out) 144 10) t) ∙ over_more q out 144 10 (omega arith) (omega arith) g ∙ ap (λ (x : List ℕ). over x out) (take_all 145 q (omega arith))
 
+-- the version, and the numbers after it
+pub by-fields : (s : Settings) (n out v y : List ℕ) → 145 ≤ length out → n ≡ numbers_of s → v ≡ written 0 (justified 12 2) out → y ≡ over (fields n) (mid_of 12 (length v - 12) v)
+    → set (put_mid 12 (length v - 12) v y) 144 10 ≡ over (line_of s) out
+unfolding fields written
+by-fields s n out v y h e p w =
+    let l : length v ≡ length out = ap length p ∙ length_over (justified 12 2) out (omega (arith, length-justified 12 2)) in
+    let k : length (fields n) ≡ 132 = omega (arith, length_fields n, ap length e, eleven s) in
+    ap (λ (t : List ℕ). set t 144 10)
+    (part_written 12 (length v) (fields n) v y (omega arith) (omega arith) (omega arith) w
+    ∙ rw (e, p) (written_next (justified 12 2) (fields (numbers_of s)) out 12 (length-justified 12 2)))
+    ∙ fed s out h
+
 -- what the check of `write_line` needs
-pub ruleset written_line = (by-fields, fed, opening)
+pub ruleset written_line = (by-fields, opening)

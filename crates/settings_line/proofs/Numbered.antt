@@ -95,6 +95,37 @@ gathering_all s k values i g h =
     let same : length values ≡ k = g.same in
     sym (g.left ∙ rw (z, take_all i values (omega arith), append-nil))
 
+-- beside what is gathered, the fields that are left: those after the first i
+pub record Parting (s : List ℕ) (k : ℕ) (values : List ℕ) (i : ℕ) (rest : List ℕ) (size : ℕ) : Type 0 where
+  pub held : Gathering s k values i
+  pub after : rest ≡ drop (12 * i) s
+  pub wide : size ≡ 12
+
+pub parting_none : (s : List ℕ) (k : ℕ) (values rest : List ℕ) (size : ℕ) → 12 * k ≤ length s → length values ≡ k → rest ≡ s → size ≡ 12 → Parting s k values 0 rest size
+parting_none s k values rest size h l r w = record { held = gathering_none s k values h l; after = r; wide = w }
+
+module _ {s : List ℕ} {k : ℕ} {values : List ℕ} {i : ℕ} {rest : List ℕ} {size : ℕ} (p : Parting s k values i rest size) (h : i < k) where
+  pub parting_left : length rest < size → ⊥
+  parting_left l =
+      let e : length rest ≡ length s - 12 * i = ap length p.after ∙ length-drop (12 * i) s in
+      omega (arith, p.wide, p.held.room)
+
+  module _ (x rest' : List ℕ) (c : rest ≡ x ++ rest') (l : length x ≡ size) where
+    part : x ≡ take 12 (drop (12 * i) s)
+    part = sym (take_at x rest' 12 (l ∙ p.wide)) ∙ ap (take 12) (sym c ∙ p.after)
+
+    pub parting_more : (size' n : ℕ) → size' ≡ size → field_number x ≡ Some n → Parting s k (set values i n) (i + 1) rest' size'
+    parting_more size' n w e =
+        let m : 12 * i + 12 ≡ 12 * (i + 1) = omega arith in
+        record {
+          held = gathering_more s k values i p.held h n (ap field_number (sym part) ∙ e);
+          after = sym (drop_at x rest' 12 (l ∙ p.wide)) ∙ ap (drop 12) (sym c ∙ p.after) ∙ drop-drop 12 (12 * i) s ∙ ap (λ (j : ℕ). drop j s) m;
+          wide = w ∙ p.wide;
+        }
+
+    pub parting_wrong : field_number x ≡ None → None ≡ numbers_in k s
+    parting_wrong e = gathering_wrong s k values i p.held h (ap field_number (sym part) ∙ e)
+
 -- what the checks of `numbers_in` and of `write_numbers` need
 pub ruleset gathered = (gathering_wrong, gathering_all)
 

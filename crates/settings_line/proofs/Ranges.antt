@@ -1,11 +1,11 @@
 -- Settings and their numbers are one thing where zeros stand outside the mode, and those of settings that refusal 1 takes are held by twelve
 -- columns.
 use mathlib.Core.Path.{◌≡◌, refl, sym, ap, ◌∙◌}
-use mathlib.Core.Bool.{Bool, true, false, ◌&&◌, ◌||◌}
+use mathlib.Core.Bool.{Bool, true, ◌&&◌, ◌||◌}
 use mathlib.Core.List.{List, [], ◌∷◌}
 use Prim.Native.Nat.{ℕ, zero, suc, ◌+◌, ◌≤◌}
 use native.Mathlib.Omega.{arith}
-use borrow.Author.Tests.{eqb-true}
+use Rattle.std.proofs.lemmas.Bool.{eqb-true, and_parts}
 use lib.Dec.{T, leb, eqb, leb→le}
 use lib.Ieee.Fits.{and_l, and_r}
 use lib.ListN.{length, take, drop, get_or}
@@ -18,29 +18,16 @@ use Rattle.config.specs.declared.Settings.{Settings}
 use Rattle.config.specs.Mode.{mode_of, mode_number, no_dynamic, dynamic_of}
 use Rattle.config.specs.Valid.{longest, most_attempts, dynamic_valid, mode_valid, settings_valid}
 use Rattle.config.proofs.Facts.{Usable, usable}
+use Rattle.config.proofs.Mode.{mode-back}
 use Rattle.settings_line.specs.Fields.{numbers_of, settings_of, zeros_outside}
 use Rattle.settings_line.proofs.Numbered.{Held}
 
 -- ---- tests
 
-pub both : (a b : Bool) → (a && b) ≡ true → (a ≡ true) × (b ≡ true)
-both true b e = (refl, e)
-both false b e = absurd (let z : ◌≡◌ {A = ℕ} 0 1 = cc in omega arith)
-
-pub neither : (a b : Bool) → (a || b) ≡ false → (a ≡ false) × (b ≡ false)
-neither true b e = absurd (let z : ◌≡◌ {A = ℕ} 0 1 = cc in omega arith)
-neither false b e = (refl, e)
-
 pub holds : {b : Bool} → b ≡ true → T b
 holds e = rw e tt
 
 -- ---- settings and numbers
-
-pub mode-back : (m : RtpInboundQueueMode) → mode_of (mode_number m) (dynamic_of m) ≡ m
-unfolding mode_of mode_number dynamic_of
-mode-back Passthrough = refl
-mode-back (SortedQueue Fixed) = refl
-mode-back (SortedQueue (Dynamic d)) = refl
 
 number_back : (n : ℕ) (d : RtpInboundStreamDynamicConfig) → n ≤ 2 → mode_number (mode_of n d) ≡ n
 unfolding mode_of mode_number
@@ -84,12 +71,12 @@ dynamic_back : (n min max t : ℕ) → n ≤ 2 → (eqb n 2 || (eqb min 0 && eqb
     → dynamic_of (mode_of n (record { min = min; max = max; target_recovery = t })) ≡ record { min = min; max = max; target_recovery = t }
 unfolding mode_of no_dynamic dynamic_of
 dynamic_back zero min max t h e =
-    let p = both (eqb min 0 && eqb max 0) (eqb t 0) e in
-    let q = both (eqb min 0) (eqb max 0) p.0 in
+    let p = and_parts (eqb min 0 && eqb max 0) (eqb t 0) e in
+    let q = and_parts (eqb min 0) (eqb max 0) p.0 in
     rw (eqb-true min 0 q.0, eqb-true max 0 q.1, eqb-true t 0 p.1)
 dynamic_back (suc zero) min max t h e =
-    let p = both (eqb min 0 && eqb max 0) (eqb t 0) e in
-    let q = both (eqb min 0) (eqb max 0) p.0 in
+    let p = and_parts (eqb min 0 && eqb max 0) (eqb t 0) e in
+    let q = and_parts (eqb min 0) (eqb max 0) p.0 in
     rw (eqb-true min 0 q.0, eqb-true max 0 q.1, eqb-true t 0 p.1)
 dynamic_back (suc (suc zero)) min max t h e = refl
 dynamic_back (suc (suc (suc n))) min max t h e = absurd (omega arith)
@@ -97,7 +84,7 @@ dynamic_back (suc (suc (suc n))) min max t h e = absurd (omega arith)
 pub numbers_again : (ns : List ℕ) → length ns ≡ 11 → get_or ns 0 0 ≤ 2 → zeros_outside ns ≡ true → numbers_of (settings_of ns) ≡ ns
 unfolding settings_of numbers_of zeros_outside
 numbers_again ns l h z =
-    let d = dynamic_back (get_or ns 0 0) (get_or ns 8 0) (get_or ns 9 0) (get_or ns 10 0) h (both (eqb (get_or ns 0 0) 1 || eqb (get_or ns 4 0) 0) (eqb (get_or ns 0 0) 2 || (eqb (get_or ns 8 0) 0 && eqb (get_or ns 9 0) 0 && eqb (get_or ns 10 0) 0)) z).1 in
+    let d = dynamic_back (get_or ns 0 0) (get_or ns 8 0) (get_or ns 9 0) (get_or ns 10 0) h (and_parts (eqb (get_or ns 0 0) 1 || eqb (get_or ns 4 0) 0) (eqb (get_or ns 0 0) 2 || (eqb (get_or ns 8 0) 0 && eqb (get_or ns 9 0) 0 && eqb (get_or ns 10 0) 0)) z).1 in
     rw (number_back (get_or ns 0 0) (record { min = get_or ns 8 0; max = get_or ns 9 0; target_recovery = get_or ns 10 0 }) h, d) (sym (all_eleven ns l))
 
 -- ---- ranges

@@ -1,7 +1,7 @@
 // The settings as one line of text (02, point 13): the reader, the writer, and the theorems that join them.
 #![tactic(auto)]
 
-ghost use Rattle.std.specs.Prelude.{◌≡◌, ◌*◌, ◌≤◌, ◌<◌, length, get_or};
+ghost use Rattle.std.specs.Prelude.{◌≡◌, ◌*◌, ◌^◌, ◌≤◌, ◌<◌, length, get_or, SomeIff};
 ghost use Rattle.words.specs.Words.{over};
 ghost use Rattle.refusals.specs.Refusals.{numbered};
 ghost use Rattle.settings_line.specs.Fields.{numbers_of, settings_of, zeros_outside};
@@ -19,16 +19,14 @@ const LINE_FEED: u8 = b'\n';
 // Bytes of a line that is written: twelve fields and the line feed.
 const LENGTH: usize = 145;
 
-// The largest number that the record's narrower fields hold.
-const MAX_U32: u64 = 4294967295;
-
 // "The fixed delay is 0 outside mode 1, the last three are 0 outside mode 2."
-// Stays: eleven numbers in the order of the line's fields, as the law counts them.
 #[tactic(auto, unfolding(crate::specs::Fields::zeros_outside))]
 fn zeros_outside(n: [u64; 11]) -> bool
     ensures { result ≡ zeros_outside n }
 {
-    ((n[0] == 1) | (n[4] == 0)) & ((n[0] == 2) | ((n[8] == 0) & (n[9] == 0) & (n[10] == 0)))
+    let [mode, _, _, _, delay, _, _, _, min, max, target_recovery] = n;
+    ((mode == 1) | (delay == 0))
+        & ((mode == 2) | ((min == 0) & (max == 0) & (target_recovery == 0)))
 }
 
 // ---- read
@@ -39,10 +37,7 @@ fn is_version(line: &[u8], version: u64) -> bool
     requires { version < 10 }
     ensures { result ≡ begins version line.now }
 {
-    if line.len() < WIDTH {
-        return false;
-    }
-    columns::read(&line[..WIDTH]) == Some(version)
+    WIDTH <= line.len() && columns::read(&line[..WIDTH]) == Some(version)
 }
 
 // The numbers of the first N fields, if each is one.
@@ -52,9 +47,9 @@ fn numbers_in<const N: usize>(fields: &[u8]) -> Option<[u64; N]>
     ensures { result ≡ numbers_in N fields.now }
 {
     let mut values = [0u64; N];
-    for i in 0..N {
-        let at = WIDTH * i;
-        values[i] = columns::read(&fields[at..at + WIDTH])?;
+    let mut parts = fields.chunks_exact(WIDTH);
+    for value in values.iter_mut() {
+        *value = columns::read(parts.next()?)?;
     }
     Some(values)
 }
@@ -75,47 +70,54 @@ fn line_numbers<const N: usize>(line: &[u8]) -> Option<[u64; N]>
     numbers_in(&line[WIDTH..])
 }
 
-// Stays: eleven numbers in the order of the line's fields, as the law counts them.
+// The settings with these numbers, if two of them fit the record's narrower fields.
 #[tactic(auto, unfolding(crate::specs::Fields::settings_of))]
-fn settings_of(n: [u64; 11]) -> Settings
-    requires clock_rate_fits { get_or n 1 0 ≤ 4294967295 }
-    requires max_attempts_fits { get_or n 7 0 ≤ 4294967295 }
-    ensures { result ≡ settings_of n }
+fn settings_of(n: [u64; 11]) -> Option<Settings>
+    ensures { SomeIff result ((get_or n 1 0 < 2 ^ 32) × (get_or n 7 0 < 2 ^ 32)) (settings_of n) }
 {
-    let dynamic = RtpInboundStreamDynamicConfig {
-        min: n[8],
-        max: n[9],
-        target_recovery: n[10],
-    };
-    let mode = config::mode_of(n[0], dynamic);
-    Settings {
+    let [
         mode,
-        clock_rate: n[1] as u32,
-        max_entries: n[2] as usize,
-        max_gaps: n[3] as usize,
-        delay: n[4],
-        initial_nack_delay: n[5],
-        default_nack_resend_delay: n[6],
-        max_nack_attempts: n[7] as u32,
-    }
+        clock_rate,
+        depth,
+        gaps,
+        delay,
+        initial,
+        resend,
+        attempts,
+        min,
+        max,
+        target_recovery,
+    ] = n;
+    let dynamic = RtpInboundStreamDynamicConfig {
+        min,
+        max,
+        target_recovery,
+    };
+    Some(Settings {
+        mode: config::mode_of(mode, dynamic),
+        clock_rate: u32::try_from(clock_rate).ok()?,
+        max_entries: depth as usize,
+        max_gaps: gaps as usize,
+        delay,
+        initial_nack_delay: initial,
+        default_nack_resend_delay: resend,
+        max_nack_attempts: u32::try_from(attempts).ok()?,
+    })
 }
 
 // The settings with these numbers, or refusal 1.
-// Stays: eleven numbers in the order of the line's fields, as the law counts them.
-#[tactic(auto, using(crate::proofs::Ranges::neither, crate::proofs::Lines::too_wide), unfolding(crate::specs::Line::taken))]
+#[tactic(auto, using(crate::proofs::Lines::too_wide), unfolding(crate::specs::Line::taken))]
 fn taken(version: u64, n: [u64; 11]) -> Result<Settings, Refusal>
     ensures { numbered result ≡ taken_of version n }
 {
-    if version < n[0] {
+    let [mode, ..] = n;
+    if version < mode {
         return Err(Refusal::Settings);
     }
     if !zeros_outside(n) {
         return Err(Refusal::Settings);
     }
-    if (MAX_U32 < n[1]) | (MAX_U32 < n[7]) {
-        return Err(Refusal::Settings);
-    }
-    let s = settings_of(n);
+    let s = settings_of(n).ok_or(Refusal::Settings)?;
     if s.is_valid() {
         Ok(s)
     } else {
@@ -124,13 +126,15 @@ fn taken(version: u64, n: [u64; 11]) -> Result<Settings, Refusal>
 }
 
 // A line whose version is 1: of its nine numbers the last, `nack_window`, is discarded.
-// Stays: eleven numbers in the order of the line's fields, as the law counts them.
 #[tactic(auto, using(refusals::proofs::Laws::passed_on, crate::proofs::Lines::first_unread, crate::proofs::Lines::first_taken))]
 fn read_first(line: &[u8]) -> Result<Settings, Refusal>
     ensures { numbered result ≡ read_first (line_numbers 9 line.now) }
 {
     let n = line_numbers::<9>(line).ok_or(Refusal::SettingsLine)?;
-    let kept = [n[0], n[1], n[2], n[3], n[4], n[5], n[6], n[7], 0, 0, 0];
+    let [mode, rate, depth, gaps, delay, initial, resend, attempts, _] = n;
+    let kept = [
+        mode, rate, depth, gaps, delay, initial, resend, attempts, 0, 0, 0,
+    ];
     taken(1, kept)
 }
 
@@ -187,14 +191,12 @@ fn write_numbers(numbers: &[u64], out: &mut [u8])
     requires { 12 * length numbers.now ≤ length out.old }
     ensures { out.new ≡ over (fields numbers.now) out.old }
 {
-    // Stays: the place of a field hangs on the index too.
-    for i in 0..numbers.len() {
-        columns::write_at(out, WIDTH * i, WIDTH, numbers[i]);
+    for (i, &n) in numbers.iter().enumerate() {
+        columns::write_at(out, WIDTH * i, WIDTH, n);
     }
 }
 
 // Writes the line of these settings; 1, then 15, where none is written. Bytes after the line stay. How many bytes the line has.
-// Stays: eleven numbers in the order of the line's fields, as the law counts them.
 #[tactic(auto, using(crate::proofs::Lines::written_line), unfolding(crate::specs::Line::write_line, crate::specs::Fields::line_valid))]
 pub fn write_line(s: Settings, out: &mut [u8]) -> Result<usize, Refusal>
     ensures { outcome (numbered result) out.new ≡ write_line s out.old }
@@ -209,10 +211,8 @@ pub fn write_line(s: Settings, out: &mut [u8]) -> Result<usize, Refusal>
     if out.len() < LENGTH {
         return Err(Refusal::Output);
     }
-    let line = [
-        2, n[0], n[1], n[2], n[3], n[4], n[5], n[6], n[7], n[8], n[9], n[10],
-    ];
-    write_numbers(&line, out);
+    columns::write_at(out, 0, WIDTH, 2);
+    write_numbers(&n, &mut out[WIDTH..]);
     out[LENGTH - 1] = LINE_FEED;
     Ok(LENGTH)
 }

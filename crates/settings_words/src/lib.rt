@@ -52,8 +52,8 @@ impl From<Settings> for SettingsWords {
 
     ghost from_gives = { λ s w. w ≡ words_of s };
 
-    #[tactic(auto, unfolding(crate::specs::Words::words_of))]
     // Stays: field by field, since the words are of the C interface and have no enum.
+    #[tactic(auto, unfolding(crate::specs::Words::words_of))]
     fn from(s: Settings) -> SettingsWords {
         let mode = s.mode;
         let dynamic = mode.dynamic();
@@ -97,8 +97,8 @@ impl From<SettingsWords> for Settings {
 
     ghost from_gives = { λ w s. s ≡ settings_of w };
 
-    #[tactic(auto, unfolding(crate::specs::Words::settings_of))]
     // Stays: field by field, since the words are of the C interface and have no enum.
+    #[tactic(auto, unfolding(crate::specs::Words::settings_of))]
     fn from(w: SettingsWords) -> Settings {
         let dynamic = RtpInboundStreamDynamicConfig {
             min: w.min_delay,

@@ -246,5 +246,5 @@ module _ (k : Call) (m : Stored) (r : ℕ) (e : r ≡ refusal k m) where
   accepted-is h = rw (← e, eq-eqb r 0 h)
 
 -- a refusal that `?` passes on
-pub refused-said : {A : Type 0} (f : A → Answer) (k : Call) (m : Stored) (r : Result A Refusal) (e : Refusal) → IsErrAnd r (λ x. x ≡ e) → number e ≡ refusal k m → Does k m (said f r) m (output_of k)
-refused-said f k m r e h g = let p = err_from_is_err_and r h in rw (p.1, p.2) (refused-is k m (number e) g (number-nonzero e))
+pub refused_said : {A : Type 0} (f : A → Answer) (k : Call) (m : Stored) (r : Result A Refusal) (e : Refusal) → IsErrAnd r (λ x. x ≡ e) → number e ≡ refusal k m → Does k m (said f r) m (output_of k)
+refused_said f k m r e h g = let p = err_from_is_err_and r h in rw (p.1, p.2) (refused-is k m (number e) g (number-nonzero e))

@@ -2,12 +2,12 @@
 // that are not used.
 #![tactic(auto, unfolding(model::specs::Valid::counts_fit, model::specs::Storage::lengths_fit, model::specs::Table::session_refusal, refusals::specs::Refusals::refuse_if))]
 
-ghost use Rattle.std.specs.Prelude.{◌≡◌, true, List, ℕ, ◌*◌, ◌≤◌, length};
+ghost use Rattle.std.specs.Prelude.{◌≡◌, true, ◌*◌, ◌≤◌, length};
 ghost use Rattle.refusals.specs.Refusals.{refusal_of, or_else};
 ghost use Rattle.model.specs.Valid.{counts_fit, lists_sound};
 ghost use Rattle.model.specs.Storage.{entry_words, gap_words, remembered_words, lengths_fit, parse, write};
 ghost use Rattle.model.specs.Table.{session_sound, session_refusal, clock_refusal};
-ghost use Rattle.model.specs.Contract.{storage, stored};
+ghost use Rattle.model.specs.Contract.{storage};
 ghost use Rattle.storage.specs.Held.{held, SameSlices};
 
 use config::Settings;
@@ -28,6 +28,7 @@ pub struct Held<'a> {
 }
 
 // Whether the slices have the lengths that the settings ask for.
+// Stays: C lends the four slices, and the opening asks this of them before there is a session that a `Held` could have.
 pub fn lengths_fit(
     set: Settings,
     entries: &[u64],
@@ -64,7 +65,7 @@ impl Held<'_> {
     {
         let s = self.session;
         let bounds = packet_gaps::check::bounds_of(s.queue);
-        // Stays: with `&&` in place of these returns the check by itself finds no proof.
+        // Stays: with `&&` in place of these returns the check left goals open that were not closed by hand either.
         if !packet_gaps::check::are_sound(self.gaps, s.gaps, bounds) {
             return false;
         }
@@ -80,7 +81,7 @@ impl Held<'_> {
     {
         let queue = self.session.queue;
         let set = queue.config.settings;
-        // Stays: with `&&` in place of these returns the check by itself finds no proof; each requirement rests on the tests before it.
+        // Stays: as above; each requirement rests on the tests before it.
         if !checks::config_valid(queue.config) {
             return false;
         }

@@ -1,20 +1,21 @@
--- `ends_fit`: the ends from place i on decide.
-use mathlib.Core.Path.{refl, sym, ◌∙◌}
-use native.Mathlib.Omega.{arith}
-use Rattle.burst.proofs.Ends.{falls, passes, goes_on, ends_over}
+-- `ends_fit`: the ends do not fall, and the last is within the buffer.
+use mathlib.Core.Path.{◌∙◌}
+use mathlib.Core.Bool.{true, false}
+use Rattle.std.proofs.lemmas.List.Sorted.{non_decreasing_from_is_sorted}
+use Rattle.burst.proofs.Ends.{ends_none, ends_fall, ends_last}
 use Rattle.burst.proofs.ends_fit.Goals as goal
 
-pub loop-end-init : goal.loop-end-init
-loop-end-init c = (omega arith, refl)
+pub returns-in_default : goal.returns-in_default
+returns-in_default c = ends_none c.args.bytes c.args.ends.now c.in_default.ensures.item.3
 
-pub returns-then-end-from : goal.returns-then-end-from
-returns-then-end-from c = sym (c.loop-end.invariant.1 ∙ falls _ _ _ _ c.loop-end-test.true c.if-end-from.true)
+pub returns-then-is_sorted : goal.returns-then-is_sorted
+returns-then-is_sorted c =
+    let xs = c.args.ends.now in
+    let last = c.in-Some.ensures.item.3 in
+    ends_last c.args.bytes xs (non_decreasing_from_is_sorted xs true c.if-is_sorted.ensures.cases) _ last.0 (last.1 0)
 
-pub returns-then-bytes-end : goal.returns-then-bytes-end
-returns-then-bytes-end c = sym (c.loop-end.invariant.1 ∙ passes _ _ _ _ c.loop-end-test.true c.if-end-from.false c.if-bytes-end.true)
-
-pub loop-end-preserved : goal.loop-end-preserved
-loop-end-preserved c = (omega arith, c.loop-end.invariant.1 ∙ goes_on _ _ _ _ c.loop-end-test.true c.if-end-from.false c.if-bytes-end.false)
-
-pub returns : goal.returns
-returns c = sym (c.loop-end.invariant.1 ∙ ends_over _ _ _ _ c.loop-end-test.false)
+pub returns-else-is_sorted : goal.returns-else-is_sorted
+returns-else-is_sorted c =
+    let xs = c.args.ends.now in
+    let n = non_decreasing_from_is_sorted xs false c.if-is_sorted.ensures.cases in
+    c.if-is_sorted.false ∙ ends_fall c.args.bytes xs n.0 n.1 (n.2 0)

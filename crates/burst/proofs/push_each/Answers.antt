@@ -13,22 +13,13 @@ loop-i-init c = (
 )
 
 pub slice_bounds-push_next-count : goal.slice_bounds-push_next-count
-slice_bounds-push_next-count c =
-    let p = part_in c.loop-i.invariant.0 c.loop-i-test.true in
-    omega (arith, p.0)
+slice_bounds-push_next-count c = (part_in c.loop-i.invariant.0 c.loop-i-test.true).0
 
 pub slice_bounds-push_next-start : goal.slice_bounds-push_next-start
-slice_bounds-push_next-start c =
-    let p = part_in c.loop-i.invariant.0 c.loop-i-test.true in
-    omega (arith, p.0, p.1)
+slice_bounds-push_next-start c = omega (arith, part_in c.loop-i.invariant.0 c.loop-i-test.true)
 
 pub slice_bounds-push_next-end : goal.slice_bounds-push_next-end
-slice_bounds-push_next-end c =
-    let p = part_in c.loop-i.invariant.0 c.loop-i-test.true in
-    omega (arith, p.0, p.1)
-
-pub push_next-done-requires : goal.push_next-done-requires
-push_next-done-requires c = c.loop-i.invariant.0.stands
+slice_bounds-push_next-end c = (part_in c.loop-i.invariant.0 c.loop-i-test.true).1
 
 pub bounds-answers-i : goal.bounds-answers-i
 bounds-answers-i c =

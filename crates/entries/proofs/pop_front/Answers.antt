@@ -6,17 +6,17 @@ use lib.ListN.{length-take}
 use Rattle.words.specs.Words.{over}
 use Rattle.model.specs.Records.{Entry}
 use Rattle.model.specs.Calls.{payload_out}
-use Rattle.entries.proofs.Laws.{front_fits, front_is}
+use Rattle.entries.proofs.Laws.{front_fits, front_there, front_is}
 use Rattle.entries.proofs.pop_front.Goals as goal
 
 pub slice_bounds-copy-end : goal.slice_bounds-copy-end
-slice_bounds-copy-end c = let h = front_fits c.requires.entries_in c.requires.n_nonzero.0 c.read-e.result c.read-e.ensures in omega (arith, c.requires.entries_in.places)
+slice_bounds-copy-end c = front_there c.requires.entries_in c.requires.n_nonzero.0 c.read-e.result c.read-e.ensures
 
 pub slice_bounds-copy-end-2 : goal.slice_bounds-copy-end-2
-slice_bounds-copy-end-2 c = let h = front_fits c.requires.entries_in c.requires.n_nonzero.0 c.read-e.result c.read-e.ensures in omega (arith, length-take c.read-e.result.size c.args.bytes.now, c.requires.entries_in.places)
+slice_bounds-copy-end-2 c = omega (arith, front_there c.requires.entries_in c.requires.n_nonzero.0 c.read-e.result c.read-e.ensures, length-take c.read-e.result.size c.args.bytes.now)
 
 pub copy-requires : goal.copy-requires
-copy-requires c = let h = front_fits c.requires.entries_in c.requires.n_nonzero.0 c.read-e.result c.read-e.ensures in omega (arith, length-take c.read-e.result.size c.args.bytes.now)
+copy-requires c = omega (arith, front_fits c.requires.entries_in c.requires.n_nonzero.0 c.read-e.result c.read-e.ensures, length-take c.read-e.result.size c.args.bytes.now)
 
 pub returns-clause-size_bound : goal.returns-clause-size_bound
 returns-clause-size_bound c = front_fits c.requires.entries_in c.requires.n_nonzero.0 c.read-e.result c.read-e.ensures

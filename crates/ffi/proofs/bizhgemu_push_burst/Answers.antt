@@ -7,5 +7,5 @@ use Rattle.ffi.proofs.bizhgemu_push_burst.Goals as goal
 pub returns : goal.returns
 returns c =
     let a = c.args in
-    burst-given a.now a.buffer.now a.ends.now a.numbers.now a.session (storage a.entries.now a.payloads.now a.gaps.now a.remembered.now)
-    c.session_in.ensures (search rules) c.any_accepted-accepted.ensures c.burst_told.ensures
+    burst-given a.now a.buffer.now a.ends.now a.numbers.now a.session (storage a.entries.now a.payloads.now a.gaps.now a.remembered.now) c.push_burst-done.result
+    c.session_in.ensures (search rules) (search rules) c.burst_told.ensures

@@ -1,5 +1,4 @@
 -- `bizhgemu_timeout_nack`: the queue's call on the session that the words stand for.
-use mathlib.Core.Path.{sym, ◌∙◌}
 use Rattle.model.specs.Calls as Calls
 use Rattle.model.specs.Contract.{storage}
 use Rattle.ffi_words.specs.Told as Told
@@ -11,4 +10,4 @@ use Rattle.ffi.proofs.bizhgemu_timeout_nack.Goals as goal
 pub returns : goal.returns
 returns c =
     let a = c.args in
-    was_read (alone Told.timeout_told) (Calls.timeout_nack a.now) a.session (storage a.entries.now a.payloads.now a.gaps.now a.remembered.now) _ {left = c.timeout_nack-answer.new.q.session} (sym c.in-Some.is ∙ c.read.ensures) (search rules) c.timeout_told.ensures
+    was_read (alone Told.timeout_told) (Calls.timeout_nack a.now) a.session (storage a.entries.now a.payloads.now a.gaps.now a.remembered.now) _ {left = c.timeout_nack-answer.new.q.session} c.in-Some.is c.read.ensures (search rules) c.timeout_told.ensures

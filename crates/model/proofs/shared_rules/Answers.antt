@@ -6,7 +6,7 @@ use Prim.Native.Nat.{ℕ, suc, ◌+◌, ◌-◌, ◌≤◌, ◌<◌}
 use native.Mathlib.Omega.{arith}
 use borrow.Author.Tests.{lt-ltb, le-leb, lt-leb, leb-false}
 use lib.Dec.{T, leb, ltb, le→leb, nltb→le}
-use lib.ListN.{length, length-drop, length-append}
+use lib.ListN.{length, length-drop, length-append, length-map}
 use Rattle.std.specs.Prelude.{Some}
 use Rattle.config.specs.declared.RtpInboundStreamSortedQueueMode.{RtpInboundStreamSortedQueueMode}
 use Rattle.config.specs.declared.RtpInboundQueueMode.TheVariants.{Passthrough, SortedQueue}
@@ -14,8 +14,8 @@ use Rattle.config.specs.declared.Settings.{Settings}
 use Rattle.model.specs.Lists.{following, keep, leading, trailing, every?}
 use Rattle.model.specs.Records.{Gap, Remembered, gap_numbers}
 use Rattle.model.specs.Rules.{max_gap_size, max_lost_nacked, place_of, gaps_after, near, far, between, fresh, below, gaps_below, gaps_from, tried, once, remember, latest, remembered_after, given_up_in, not_given_up_in, lost_below_of, left_from_of}
-use Rattle.model.specs.Shared.{longest_step, most_remembered, SharedRules, stepped}
-use Rattle.model.proofs.Lists.{each_kept, every_of_each, length-following}
+use Rattle.model.specs.Shared.{longest_step, most_remembered, Stepped, SharedRules, stepped}
+use Rattle.model.proofs.Lists.{each_kept, every_of_each, length-following, numbers-fresh}
 use Rattle.model.proofs.shared_rules.Goals as goal
 
 -- ---- a step
@@ -29,31 +29,26 @@ module _ (h s : ℕ) (l : List Gap) where
   unfolding place_of
   at_far many = rw (lt-ltb h (h + s) (omega arith), lt-leb (h + s - h) max_gap_size (omega arith))
 
-numbers-fresh : (now : ℕ) (l : List ℕ) → gap_numbers (map (fresh now) l) ≡ l
-unfolding fresh
-numbers-fresh now [] = refl
-numbers-fresh now (x ∷ xs) = ap (λ (k : List ℕ). x ∷ k) (numbers-fresh now xs)
+module _ (now h s : ℕ) (l : List Gap) where
+  opens : 1 ≤ s → s ≤ longest_step → gap_numbers (stepped now h s l) ≡ gap_numbers l ++ following (suc h) (s - 1)
+  unfolding gaps_after between
+  opens some few =
+      let size : h + s - suc h ≡ s - 1 = omega arith in
+      rw (at_near h s l some few, size) (map-append _ l (map (fresh now) (following (suc h) (s - 1))) ∙ ap (λ (k : List ℕ). gap_numbers l ++ k) (numbers-fresh now (following (suc h) (s - 1))))
 
-opens : (now h s : ℕ) (l : List Gap) → 1 ≤ s → s ≤ longest_step → gap_numbers (stepped now h s l) ≡ gap_numbers l ++ following (suc h) (s - 1)
-unfolding gaps_after between
-opens now h s l some few =
-    let size : h + s - suc h ≡ s - 1 = omega arith in
-    rw (at_near h s l some few, size) (map-append _ l (map (fresh now) (following (suc h) (s - 1))) ∙ ap (λ (k : List ℕ). gap_numbers l ++ k) (numbers-fresh now (following (suc h) (s - 1))))
+  so_many : 1 ≤ s → s ≤ longest_step → length (stepped now h s l) ≡ length l + (s - 1)
+  so_many some few =
+      sym (length-map (stepped now h s l) _)
+      ∙ ap length (opens some few)
+      ∙ length-append (gap_numbers l) (following (suc h) (s - 1))
+      ∙ rw (length-following (suc h) (s - 1)) (ap (λ (k : ℕ). k + (s - 1)) (length-map l _))
 
-length-map : {A B : Type 0} (f : A → B) (l : List A) → length (map f l) ≡ length l
-length-map f [] = refl
-length-map f (x ∷ xs) = ap suc (length-map f xs)
+  clears : longest_step < s → stepped now h s l ≡ []
+  unfolding gaps_after
+  clears many = rw (at_far h s l many)
 
-so_many : (now h s : ℕ) (l : List Gap) → 1 ≤ s → s ≤ longest_step → length (stepped now h s l) ≡ length l + (s - 1)
-so_many now h s l some few =
-    sym (length-map _ (stepped now h s l))
-    ∙ ap length (opens now h s l some few)
-    ∙ length-append (gap_numbers l) (following (suc h) (s - 1))
-    ∙ rw (length-following (suc h) (s - 1)) (ap (λ (k : ℕ). k + (s - 1)) (length-map _ l))
-
-clears : (now h s : ℕ) (l : List Gap) → longest_step < s → stepped now h s l ≡ []
-unfolding gaps_after
-clears now h s l many = rw (at_far h s l many)
+  step : Stepped now h s l
+  step = record { opens = opens; so_many = so_many; clears = clears }
 
 -- ---- numbers lost
 lost_below : (sorted : RtpInboundStreamSortedQueueMode) (w : ℕ) (l : List Gap) → T (every? (λ (g : Gap). ltb g.number w) (lost_below_of (SortedQueue sorted) w l))
@@ -111,15 +106,13 @@ all_remembered : (lost : List Gap) (l : List Remembered) → length l + length (
 unfolding remembered_after latest
 all_remembered lost l h =
     let k = l ++ map remember (keep once lost) in
-    let none : length k - max_lost_nacked ≡ 0 = omega (arith, length-append l (map remember (keep once lost)), length-map remember (keep once lost)) in
+    let none : length k - max_lost_nacked ≡ 0 = omega (arith, length-append l (map remember (keep once lost)), length-map (keep once lost) remember) in
     rw none
 
 shared_rules : SharedRules
 unfolding lost_below_of left_from_of given_up_in not_given_up_in
 shared_rules = record {
-  opens = opens;
-  so_many = so_many;
-  clears = clears;
+  step = step;
   lost_below = lost_below;
   left_from = left_from;
   none_below = λ w l. (refl, refl);

@@ -2,5 +2,5 @@
 use Rattle.packet_gaps.proofs.Opening.{Opening}
 use Rattle.packet_gaps.proofs.open_between.Given as goal
 
-abbrev pub invariant-loop-number : goal.invariant-loop-number
-invariant-loop-number l = Opening l.initial.s l.s l.n l.initial.number l.number-end l.at l.number l.i
+abbrev pub invariant-loop-i : goal.invariant-loop-i
+invariant-loop-i l = Opening l.initial.s l.s l.n l.first l.fn.x.0 l.at l.i

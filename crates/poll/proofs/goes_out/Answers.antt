@@ -18,6 +18,6 @@ returns c =
     let q = c.args.q.now in
     let s = q.session.queue in
     c.ready.ensures
-    ∙ ap (λ (d : ℕ). ready_in s.config.settings.mode s.config.settings.clock_rate d s.last c.args.instant c.read-first.result.timestamp.0) c.requires.delay_value.0
+    ∙ ap (λ (d : ℕ). ready_in s.config.settings.mode s.config.settings.clock_rate d s.last c.args.instant c.read-first.result.timestamp.0) c.requires.delay_value
     ∙ ap (λ (e : Entry). ready s c.args.instant e.timestamp) (sym (c.read-first.ensures (take payload_bytes q.payloads.now)))
     ∙ sym (hands_first c.args.instant s q.entries.now q.payloads.now q.session.entries c.if-q-eq0.false)

@@ -2,13 +2,12 @@
 use mathlib.Core.Path.{sym}
 use Rattle.rtp_packet.specs.Datagram.{largest_payload}
 use Rattle.rtp_packet.proofs.Answers.{parsed-packet, parsed-refused}
-use Rattle.model.specs.Contract.{stored}
 use Rattle.push.proofs.Pushing.{passed, judged_late, judged_unread}
 use Rattle.push.proofs.judge.Goals as goal
 
 pub returns-in_err-check_clock : goal.returns-in_err-check_clock
 returns-in_err-check_clock c = λ e p r.
-    rw (passed c.from_residual.result _ c.from_residual.ensures.1) (judged_late c.args.instant c.args.datagram.now (stored c.args.q.now.session e p c.args.q.now.gaps.now r) _ c.in_err-check_clock.ensures)
+    rw (passed c.from_residual.result _ c.from_residual.ensures.1) (judged_late _ _ _ _ c.in_err-check_clock.ensures)
 
 pub judge_packet-requires : goal.judge_packet-requires
 judge_packet-requires c =
@@ -18,7 +17,4 @@ judge_packet-requires c =
 pub returns-in_err-packet : goal.returns-in_err-packet
 returns-in_err-packet c = λ e p r.
     let x = parsed-refused _ _ largest_payload _ c.args.datagram.now (sym c.in_err-packet.ensures) in
-    rw (passed c.from_residual-in_err-packet.result _ c.from_residual-in_err-packet.ensures.1) (judged_unread c.args.instant c.args.datagram.now (stored c.args.q.now.session e p c.args.q.now.gaps.now r) _ c.in_ok-check_clock.ensures x.0)
-
-pub returns : goal.returns
-returns c = c.judge_packet.ensures
+    rw (passed c.from_residual-in_err-packet.result _ c.from_residual-in_err-packet.ensures.1) (judged_unread _ _ _ _ c.in_ok-check_clock.ensures x.0)

@@ -2,17 +2,16 @@
 use mathlib.Core.Path.{sym, subst}
 use Rattle.storage.specs.Held.{held}
 use Rattle.model.specs.Storage.{Stored}
-use Rattle.storage.proofs.Settled.{settled_of}
+use Rattle.storage.proofs.Settled.{settled_of, refused_said}
+use Rattle.model.specs.Calls.{output_of}
+use Rattle.push.specs.Answers.{placed}
 use Rattle.push.specs.Media.{FoundIn, JudgedAs}
-use Rattle.push.proofs.Pushing.{passed, readable, push-refused, push_applied}
+use Rattle.push.proofs.Pushing.{readable, judged_refused, push_applied}
 use Rattle.push.proofs.push_checked.Goals as goal
 
 -- ---- the needs
 pub judge-requires : goal.judge-requires
-judge-requires c = readable (held c.args.q.now) c.requires
-
-pub settle-requires : goal.settle-requires
-settle-requires c = c.requires
+judge-requires c = readable _ c.requires
 
 pub apply-requires : goal.apply-requires
 unfolding JudgedAs
@@ -21,11 +20,12 @@ apply-requires c =
     record { settled = k.0; found_in = subst (FoundIn _ c.args.datagram.now) (sym k.1) (c.in_ok-found.ensures (c.args.q.now.entries.now) c.args.q.now.payloads.now c.args.q.now.remembered.now).1 }
 
 pub returns-in_err-found-clause-does : goal.returns-in_err-found-clause-does
+unfolding output_of
 returns-in_err-found-clause-does c =
-    rw (passed c.from_residual.result _ c.from_residual.ensures.1) (push-refused c.args.instant c.args.datagram.now (held c.args.q.now) c.requires _ (c.in_err-found.ensures c.args.q.now.entries.now c.args.q.now.payloads.now c.args.q.now.remembered.now))
+    refused_said placed _ _ _ _ c.from_residual.ensures.1 (judged_refused _ _ _ c.requires _ (c.in_err-found.ensures c.args.q.now.entries.now c.args.q.now.payloads.now c.args.q.now.remembered.now))
 
 pub returns-clause-does : goal.returns-clause-does
 returns-clause-does c =
     let came : Stored = held c.args.q.now in
     let k = settled_of came _ c.requires c.settle.ensures.settled in
-    push_applied c.args.instant c.args.datagram.now came c.requires _ (c.in_ok-found.ensures c.args.q.now.entries.now c.args.q.now.payloads.now c.args.q.now.remembered.now) _ _ _ k.1 c.apply.ensures.answer_value c.apply.ensures.left
+    push_applied _ _ _ c.requires _ (c.in_ok-found.ensures c.args.q.now.entries.now c.args.q.now.payloads.now c.args.q.now.remembered.now) _ _ _ k.1 c.apply.ensures.answer_value c.apply.ensures.left

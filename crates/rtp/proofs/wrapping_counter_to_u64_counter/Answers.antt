@@ -1,7 +1,6 @@
 -- `wrapping_counter_to_u64_counter` meets its contract: the shift gives one cycle, 2 ^ bits, and what it subtracts leaves the reference's
 -- cycles, so its numbers are the definition's base and rivals.
-use Rattle.std.proofs.Common.{◌≡◌, ℕ, ◌+◌, ◌-◌, ◌*◌, ◌%◌, ◌^◌, ◌<◌, ◌≤◌, ap, ◌∙◌, div-add-mod', arith, pow_pos, shl_exact, rules}
-use native.Mathlib.Nat.{mod-le}
+use Rattle.std.proofs.Common.{◌≡◌, ℕ, ◌+◌, ◌-◌, ◌*◌, ◌%◌, ◌^◌, ◌≤◌, ap, ◌∙◌, div-add-mod', arith, shl_exact, rules}
 use Rattle.rtp.specs.Numbers.{base, below, above, guessed}
 use Rattle.rtp.proofs.Laws.{base-lt}
 use Rattle.rtp.proofs.wrapping_counter_to_u64_counter.Goals as goal
@@ -14,12 +13,6 @@ unfolding base
 base_is w r got h =
     let e : r % (1 * 2 ^ w % 2 ^ 64) ≡ r % 2 ^ w = ap (λ (k : ℕ). r % k) (cycle_is w h) in
     omega (arith, e, div-add-mod' r (2 ^ w))
-
-pub nonzero_rem-base : goal.nonzero_rem-base
-nonzero_rem-base c = let w = c.args.bits in omega (arith, cycle_is w (search rules), pow_pos w)
-
-pub overflow_sub-base : goal.overflow_sub-base
-overflow_sub-base c = omega (arith, mod-le c.args.reference (1 * 2 ^ c.args.bits % 2 ^ 64))
 
 pub overflow_add-base : goal.overflow_add-base
 overflow_add-base c =

@@ -1,18 +1,25 @@
 -- `numbers_in`: Numbered says what one more field makes of the numbers stored.
-use Prim.Native.Nat.{ℕ, ◌+◌, ◌*◌, ◌-◌}
-use mathlib.Core.Path.{◌≡◌, sym, ap, ◌∙◌}
 use native.Mathlib.Omega.{arith}
-use lib.ListN.{take, drop, length-replicate}
-use Rattle.columns.specs.Columns.{field_number}
-use Rattle.settings_line.proofs.Numbered.{gathering_none, gathering_more}
+use mathlib.Core.Path.{◌≡◌, sym, ◌∙◌}
+use lib.ListN.{length-replicate}
+use Rattle.std.specs.Prelude.{None}
+use Rattle.settings_line.proofs.Numbered.{gathering_all, parting_none, parting_left, parting_more, parting_wrong}
 use Rattle.settings_line.proofs.numbers_in.Goals as goal
 
-pub loop-i-init : goal.loop-i-init
-loop-i-init g c = gathering_none c.args.fields.now g.row.N _ c.requires.1 (length-replicate g.row.N 0)
+pub loop-value-init : goal.loop-value-init
+loop-value-init g c = parting_none c.args.fields.now g.row.N _ _ _ c.requires.1 (length-replicate g.row.N 0) c.chunks_exact-parts.ensures.rest c.chunks_exact-parts.ensures.size
 
-pub loop-i-preserved : goal.loop-i-preserved
-loop-i-preserved g c =
-    let i = c.loop-i.i in
-    let w : 12 * i + 12 - 12 * i ≡ 12 = omega arith in
-    gathering_more c.args.fields.now g.row.N c.loop-i.values i c.loop-i.invariant (omega arith) _
-    (sym (ap (λ (k : ℕ). field_number (take k (drop (12 * i) c.args.fields.now))) w) ∙ sym c.read.ensures ∙ c.in_ok-values.was)
+pub returns-in_err-next : goal.returns-in_err-next
+returns-in_err-next g c = absurd (parting_left c.loop-value.invariant (omega arith) c.in_err-next.ensures.steps.1.0)
+
+pub returns-in_err-value : goal.returns-in_err-value
+returns-in_err-value g c =
+    let p : c.from_residual-in_err-value.result ≡ None = c.from_residual-in_err-value.ensures in
+    p ∙ parting_wrong c.loop-value.invariant (omega arith) _ _ c.in_ok-next.ensures.steps.1.0 c.in_ok-next.ensures.steps.1.1 (sym c.read.ensures ∙ c.in_err-value.was)
+
+pub loop-value-preserved : goal.loop-value-preserved
+loop-value-preserved g c =
+    parting_more c.loop-value.invariant (omega arith) _ _ c.in_ok-next.ensures.steps.1.0 c.in_ok-next.ensures.steps.1.1 _ _ c.in_ok-next.ensures.steps.0 (sym c.read.ensures ∙ c.in_ok-value.was)
+
+pub returns : goal.returns
+returns g c = gathering_all c.args.fields.now g.row.N _ _ c.loop-value.invariant.held (omega arith)

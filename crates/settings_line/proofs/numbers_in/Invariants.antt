@@ -1,6 +1,6 @@
 -- `numbers_in`: the numbers stored, with those of the fields that are left, are all of them.
-use Rattle.settings_line.proofs.Numbered.{Gathering}
+use Rattle.settings_line.proofs.Numbered.{Parting}
 use Rattle.settings_line.proofs.numbers_in.Given as goal
 
-abbrev pub invariant-loop-i : goal.invariant-loop-i
-invariant-loop-i g l = Gathering l.fields g.row.N l.values l.i
+abbrev pub invariant-loop-value : goal.invariant-loop-value
+invariant-loop-value g l = Parting l.fields g.row.N l.value-items l.value-index l.parts.rest.now l.parts.size

@@ -2,5 +2,5 @@
 use Rattle.nack_pairs.proofs.Unmasking.{Reading}
 use Rattle.nack_pairs.proofs.read.read.Given as goal
 
-abbrev pub invariant-loop-i : goal.invariant-loop-i
-invariant-loop-i l = Reading l.bytes l.initial.list l.list l.count l.i
+abbrev pub invariant-loop-entry : goal.invariant-loop-entry
+invariant-loop-entry l = Reading l.bytes l.initial.list l.list l.count l.entry-index

@@ -3,5 +3,5 @@ use mathlib.Core.Path.{◌≡◌}
 use Rattle.packet_loss.specs.Loss.{record_lost}
 use Rattle.packet_loss.proofs.PacketLoss.record_lost.Given as goal
 
-abbrev pub invariant-loop-i : goal.invariant-loop-i
-invariant-loop-i l = l.p ≡ record_lost l.initial.p l.i
+abbrev pub invariant-loop : goal.invariant-loop
+invariant-loop l = l.p ≡ record_lost l.initial.p l.counter

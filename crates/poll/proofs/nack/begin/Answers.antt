@@ -25,9 +25,6 @@ pub returns-in_err-found-clause-session_value : goal.returns-in_err-found-clause
 returns-in_err-found-clause-session_value c =
     left_alone _ _ _ _ (begin_late _ _ _ c.in_ok-check_session.ensures _ c.in_err-found.ensures)
 
-pub settle-requires : goal.settle-requires
-settle-requires c = passed_16 _ (sym c.in_ok-check_session.ensures)
-
 pub drain-requires : goal.drain-requires
 drain-requires c =
     let all = begin_settled _ _ _ c.in_ok-check_session.ensures _ c.in_ok-found.ensures _ c.settle.ensures.settled in

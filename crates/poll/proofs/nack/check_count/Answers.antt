@@ -1,16 +1,8 @@
 -- `check_count` meets its contract: what the timings make due is what the definition does.
 use mathlib.Core.Path.{◌∙◌}
-use native.Mathlib.Omega.{arith}
 use Rattle.refusals.proofs.Laws.{passed-number}
-use Rattle.storage.specs.Held.{held}
-use Rattle.poll.proofs.Parted.{given-few}
-use Rattle.poll.proofs.Nacking.{found-given, found-timings, small_are, lost-refused, count-refused, count-passed}
+use Rattle.poll.proofs.Nacking.{found-timings, small_are, lost-refused, count-refused, count-passed}
 use Rattle.poll.proofs.nack.check_count.Goals as goal
-
-pub check_lost-requires : goal.check_lost-requires
-check_lost-requires c =
-    let m = held c.args.q.now in
-    omega (arith, given-few m _ (found-given c.args.instant m _ c.requires.found_value), c.requires.judging.lost_fits)
 
 pub returns-in_err-check_lost : goal.returns-in_err-check_lost
 returns-in_err-check_lost c =

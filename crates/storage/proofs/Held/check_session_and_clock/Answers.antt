@@ -1,6 +1,6 @@
 -- `check_session_and_clock`: 8 is asked only where 16 passes.
-use mathlib.Core.Path.{◌≡◌, sym, ◌∙◌}
-use Rattle.refusals.proofs.Laws.{passed-number, number_refuses, or_else_second, or_else_refused}
+use mathlib.Core.Path.{sym, ◌∙◌}
+use Rattle.refusals.proofs.Laws.{passed-number, or_else_second, or_else_refused}
 use Rattle.storage.proofs.Held.check_session_and_clock.Goals as goal
 
 pub returns-in_err-check_session : goal.returns-in_err-check_session

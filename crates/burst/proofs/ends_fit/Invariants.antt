@@ -1,9 +1,0 @@
--- `ends_fit`: the ends from place i on decide.
-use mathlib.Core.Path.{◌≡◌}
-use Prim.Native.Nat.{◌≤◌}
-use lib.ListN.{length, drop}
-use Rattle.burst.specs.Burst.{ends_fit}
-use Rattle.burst.proofs.ends_fit.Given as goal
-
-abbrev pub invariant-loop-end : goal.invariant-loop-end
-invariant-loop-end l = (l.end-index ≤ length l.ends) × (ends_fit l.bytes 0 l.ends ≡ ends_fit l.bytes l.from (drop l.end-index l.ends))
