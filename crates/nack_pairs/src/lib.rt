@@ -56,15 +56,15 @@ fn next(n: Naming, x: u64) -> Naming
     }
 }
 
-// The pair's bytes at `at`.
-#[tactic(auto, unfolding(crate::specs::Wire::bytes_of))]
+// The pair's bytes at `at`, of one number, so that they are stored at once: of two halves, byte by byte, a call that names thousands of
+// numbers took half as long again.
+#[tactic(auto, using(crate::proofs::Wiring::pair_bytes))]
 fn put(out: &mut [u8], at: usize, first: u64, mask: u64)
     requires { at + entry_bytes ≤ length out.old }
     ensures { out.new ≡ written at (bytes_of (pair first mask)) out.old }
 {
-    let [first_high, first_low] = ((first % 65536) as u16).to_be_bytes();
-    let [mask_high, mask_low] = ((mask % 65536) as u16).to_be_bytes();
-    words::write(out, at, &[first_high, first_low, mask_high, mask_low]);
+    let entry = (first % 65536 * 65536 + mask % 65536) as u32;
+    words::write(out, at, &entry.to_be_bytes());
 }
 
 // Names x, which is above the numbers that were named, and writes its pair where it stands: over the last pair, or after it.
