@@ -1,5 +1,5 @@
 -- An exported call is the queue's call on the session that the words stand for, or a refusal of the words.
-use mathlib.Core.Path.{◌≡◌, refl, sym, ap, ◌∙◌}
+use mathlib.Core.Path.{◌≡◌, refl, sym, ◌∙◌}
 use mathlib.Core.Bool.{Bool, true, false, cond}
 use mathlib.Core.List.{List}
 use Prim.Native.Nat.{ℕ}
@@ -12,7 +12,7 @@ use Rattle.model.specs.Calls.{Answer, Call, output_of}
 use Rattle.model.specs.Did.{did}
 use Rattle.ffi_words.specs.declared.SessionWords.{SessionWords}
 use Rattle.ffi_words.specs.Words.{readable, session_of, read}
-use Rattle.ffi_words.specs.Told.{refusal_in, session_after, back}
+use Rattle.ffi_words.specs.Told.{back}
 use Rattle.ffi.specs.Exported.{unread, told, called, Gives}
 
 none_when : (b : Bool) (x : Session) → None ≡ cond b (Some x) None → b ≡ false
@@ -40,7 +40,3 @@ module _ {A : Type 0} (tell : Answer → SessionWords → A) (c : Call) (w : Ses
   pub was_read : {o : Option Session} {s left : Session} {a : Answer} {after : Storage} {out : List ℕ} → o ≡ Some s → o ≡ read w → did c (record { session = s; storage = t }) ≡ record { answer = a; stored = record { session = left; storage = after }; output = out } → r ≡ back tell a w left → Gives tell c w t r after out
   unfolding called told
   was_read is e d g = let h : (readable w ≡ true) × _ = is_read w (sym is ∙ e) in rw (h.0, ← h.1, d, g)
-
-  -- the same where the words v went back, by the refusal k that the code answered
-  pub came_back : {o : Option Session} {s left : Session} {a : Answer} {after : Storage} {out : List ℕ} {v : SessionWords} {k : Option ℕ} → o ≡ Some s → o ≡ read w → did c (record { session = s; storage = t }) ≡ record { answer = a; stored = record { session = left; storage = after }; output = out } → r ≡ tell a v → v ≡ session_after k w left → k ≡ refusal_in a → Gives tell c w t r after out
-  came_back {left = left} {a = a} is e d g h i = was_read is e d (g ∙ ap (tell a) (h ∙ ap (λ (k : Option ℕ). session_after k w left) i))

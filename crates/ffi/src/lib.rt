@@ -71,7 +71,7 @@ pub fn bizhgemu_push(
     ensures { Gives Told.pushed (Calls.media now datagram.now) session (lent entries payloads gaps remembered) result (left entries payloads gaps remembered) [] }
 {
     let Some(read) = ffi_words::read(session) else {
-        return answers::media_told(Err(Refusal::Session), session);
+        return answers::push_refused(Refusal::Session, session);
     };
     // Stays: `Held` in full, here and below. Of a slice lent to a function that puts it into a `Held`, the checker knows no more than its
     // length when this function returns: a `held(..)` with the slices' ghost names in its contract was proved, its callers were not.
@@ -83,8 +83,7 @@ pub fn bizhgemu_push(
         remembered,
     };
     let answer = push::push(&mut q, now, datagram);
-    let words = answers::words_back(&answer, session, q.session);
-    answers::media_told(answer, words)
+    answers::media_told(answer, session, q.session)
 }
 
 // Words that cannot be read stand for a session of zeros, which check 16 refuses.
@@ -135,7 +134,7 @@ pub fn bizhgemu_push_rtx(
     ensures { Gives Told.pushed (Calls.repair now datagram.now) session (lent entries payloads gaps remembered) result (left entries payloads gaps remembered) [] }
 {
     let Some(read) = ffi_words::read(session) else {
-        return answers::repair_told(Err(Refusal::Session), session);
+        return answers::push_refused(Refusal::Session, session);
     };
     let mut q = Held {
         session: read,
@@ -145,8 +144,7 @@ pub fn bizhgemu_push_rtx(
         remembered,
     };
     let answer = rtx::push_rtx(&mut q, now, datagram);
-    let words = answers::words_back(&answer, session, q.session);
-    answers::repair_told(answer, words)
+    answers::repair_told(answer, session, q.session)
 }
 
 // Stays: each exported name has its call and its output, and the C interface wants each as a function.
@@ -162,7 +160,7 @@ pub fn bizhgemu_poll(
     ensures { Gives Told.polled (Calls.poll now out.old) session (lent entries payloads gaps remembered) result (left entries payloads gaps remembered) out.new }
 {
     let Some(read) = ffi_words::read(session) else {
-        return answers::poll_told(Err(Refusal::Session), session);
+        return answers::poll_refused(Refusal::Session, session);
     };
     let mut q = Held {
         session: read,
@@ -172,8 +170,7 @@ pub fn bizhgemu_poll(
         remembered,
     };
     let answer = poll::poll(&mut q, now, out);
-    let words = answers::words_back(&answer, session, q.session);
-    answers::poll_told(answer, words)
+    answers::poll_told(answer, session, q.session)
 }
 
 // Stays: the header's parameters, as above.
@@ -189,7 +186,7 @@ pub fn bizhgemu_poll_nack(
     ensures { Gives Told.polled_nack (Calls.poll_nack now out.old) session (lent entries payloads gaps remembered) result (left entries payloads gaps remembered) out.new }
 {
     let Some(read) = ffi_words::read(session) else {
-        return answers::nack_told(Err(Refusal::Session), session);
+        return answers::nack_refused(Refusal::Session, session);
     };
     let mut q = Held {
         session: read,
@@ -199,8 +196,7 @@ pub fn bizhgemu_poll_nack(
         remembered,
     };
     let answer = nack::poll_nack(&mut q, now, out);
-    let words = answers::words_back(&answer, session, q.session);
-    answers::nack_told(answer, words)
+    answers::nack_told(answer, session, q.session)
 }
 
 // Stays: the header's parameters, as above.
@@ -216,7 +212,7 @@ pub fn bizhgemu_nack_wire(
     ensures { Gives Told.polled_wire (Calls.nack_wire now out.old) session (lent entries payloads gaps remembered) result (left entries payloads gaps remembered) out.new }
 {
     let Some(read) = ffi_words::read(session) else {
-        return answers::wire_told(Err(Refusal::Session), session);
+        return answers::wire_refused(Refusal::Session, session);
     };
     let mut q = Held {
         session: read,
@@ -226,8 +222,7 @@ pub fn bizhgemu_nack_wire(
         remembered,
     };
     let answer = wire::nack_wire(&mut q, now, out);
-    let words = answers::words_back(&answer, session, q.session);
-    answers::wire_told(answer, words)
+    answers::wire_told(answer, session, q.session)
 }
 
 // The 16-bit numbers that the entries of a generic NACK name. No session is needed.

@@ -1,3 +1,2 @@
 -- Laws of the words.
 pub mod Kept
-pub mod Told

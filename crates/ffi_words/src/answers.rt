@@ -5,12 +5,13 @@
 ghost use Rattle.std.specs.Prelude.{◌≡◌, [], ◌∷◌};
 ghost use Rattle.std.specs.Result.{result_unwrap_or};
 ghost use Rattle.refusals.specs.Refusals.{number, refusal_of};
+ghost use Rattle.model.specs.Calls as Calls;
 ghost use Rattle.model.specs.Did as Did;
 ghost use Rattle.queue.specs.Answers.{opening_answer};
 ghost use Rattle.push.specs.Answers.{media_answer, repair_answer};
 ghost use Rattle.poll.specs.Answers.{packet_of, poll_answer, nack_answer, wire_answer};
 ghost use Rattle.ffi_words.specs.Words.{words_of};
-ghost use Rattle.ffi_words.specs.Told.{refusal_told, session_after, opt_words, packet_words, pushed, polled, polled_nack, polled_wire, burst_told, open_told};
+ghost use Rattle.ffi_words.specs.Told.{refusal_told, session_after, opt_words, packet_words, back, pushed, polled, polled_nack, polled_wire, burst_told, open_told};
 
 use super::SessionWords;
 use model::Session;
@@ -125,7 +126,7 @@ pub fn packet_words(h: HandedOut) -> Packet
     }
 }
 
-// ---- what a call came to, with the words of the session that go back
+// ---- what a call came to, with the words that the session was given in and the session that is left
 
 pub fn open_refused(refusal: Refusal) -> Opened
     ensures { result ≡ open_told (Did.refused (number refusal)) }
@@ -149,6 +150,7 @@ pub fn open_told(opening: Result<Session, Refusal>) -> Opened
 }
 
 // The words that go back: those of the session that is left, or of a refused call those that came.
+// Stays: `given` and `left`, here and below: a struct of the two would be made at each call only to be taken apart here, where one of them goes.
 pub fn words_back<T>(
     answer: &Result<T, Refusal>,
     given: SessionWords,
@@ -162,10 +164,22 @@ pub fn words_back<T>(
     }
 }
 
-// Stays: the numbers are the C interface's, and the list of a burst has 255 for the dropped packet, so `Media` has no numbers of its own.
-pub fn media_told(answer: Result<Media, Refusal>, session: SessionWords) -> Pushed
-    ensures { result ≡ pushed (media_answer answer) session }
+// Stays: each fills the struct of its exported call, and so do the three below.
+pub fn push_refused(refusal: Refusal, given: SessionWords) -> Pushed
+    ensures { result ≡ pushed (Calls.refused (number refusal)) given }
 {
+    Pushed {
+        refusal: refusal.number(),
+        answer: 0,
+        session: given,
+    }
+}
+
+// Stays: the numbers are the C interface's, and the list of a burst has 255 for the dropped packet, so `Media` has no numbers of its own.
+pub fn media_told(answer: Result<Media, Refusal>, given: SessionWords, left: Session) -> Pushed
+    ensures { result ≡ back pushed (media_answer answer) given left }
+{
+    let session = words_back(&answer, given, left);
     let (refusal, answer) = match answer {
         Ok(Media::Queued) => (0, 0),
         Ok(Media::Dropped) => (0, 1),
@@ -179,9 +193,10 @@ pub fn media_told(answer: Result<Media, Refusal>, session: SessionWords) -> Push
 }
 
 // Stays: the numbers are the C interface's; as discriminants they would stand in `session`, which knows no number of an answer.
-pub fn repair_told(answer: Result<Fate, Refusal>, session: SessionWords) -> Pushed
-    ensures { result ≡ pushed (repair_answer answer) session }
+pub fn repair_told(answer: Result<Fate, Refusal>, given: SessionWords, left: Session) -> Pushed
+    ensures { result ≡ back pushed (repair_answer answer) given left }
 {
+    let session = words_back(&answer, given, left);
     let (refusal, answer) = match answer {
         Ok(Fate::Recovered) => (0, 0),
         Ok(Fate::Redundant) => (0, 1),
@@ -195,9 +210,27 @@ pub fn repair_told(answer: Result<Fate, Refusal>, session: SessionWords) -> Push
     }
 }
 
-pub fn poll_told(answer: Result<Option<HandedOut>, Refusal>, session: SessionWords) -> Polled
-    ensures { result ≡ polled (poll_answer answer) session }
+// Stays: as `push_refused`.
+pub fn poll_refused(refusal: Refusal, given: SessionWords) -> Polled
+    ensures { result ≡ polled (Calls.refused (number refusal)) given }
 {
+    Polled {
+        refusal: refusal.number(),
+        has_packet: 0,
+        packet: no_packet(),
+        session: given,
+    }
+}
+
+// Stays: as `words_back`.
+pub fn poll_told(
+    answer: Result<Option<HandedOut>, Refusal>,
+    given: SessionWords,
+    left: Session,
+) -> Polled
+    ensures { result ≡ back polled (poll_answer answer) given left }
+{
+    let session = words_back(&answer, given, left);
     let (refusal, has_packet, packet) = match answer {
         Ok(None) => (0, 0, no_packet()),
         Ok(Some(h)) => (0, 1, packet_words(h)),
@@ -211,9 +244,26 @@ pub fn poll_told(answer: Result<Option<HandedOut>, Refusal>, session: SessionWor
     }
 }
 
-pub fn nack_told(answer: Result<Option<usize>, Refusal>, session: SessionWords) -> PolledNack
-    ensures { result ≡ polled_nack (nack_answer answer) session }
+// Stays: as `push_refused`.
+pub fn nack_refused(refusal: Refusal, given: SessionWords) -> PolledNack
+    ensures { result ≡ polled_nack (Calls.refused (number refusal)) given }
 {
+    PolledNack {
+        refusal: refusal.number(),
+        count: 0,
+        session: given,
+    }
+}
+
+// Stays: as `words_back`.
+pub fn nack_told(
+    answer: Result<Option<usize>, Refusal>,
+    given: SessionWords,
+    left: Session,
+) -> PolledNack
+    ensures { result ≡ back polled_nack (nack_answer answer) given left }
+{
+    let session = words_back(&answer, given, left);
     let (refusal, count) = match answer {
         Ok(None) => (0, 0),
         Ok(Some(n)) => (0, n),
@@ -226,9 +276,22 @@ pub fn nack_told(answer: Result<Option<usize>, Refusal>, session: SessionWords) 
     }
 }
 
-pub fn wire_told(answer: Result<usize, Refusal>, session: SessionWords) -> PolledWire
-    ensures { result ≡ polled_wire (wire_answer answer) session }
+// Stays: as `push_refused`.
+pub fn wire_refused(refusal: Refusal, given: SessionWords) -> PolledWire
+    ensures { result ≡ polled_wire (Calls.refused (number refusal)) given }
 {
+    PolledWire {
+        refusal: refusal.number(),
+        bytes: 0,
+        session: given,
+    }
+}
+
+// Stays: as `words_back`.
+pub fn wire_told(answer: Result<usize, Refusal>, given: SessionWords, left: Session) -> PolledWire
+    ensures { result ≡ back polled_wire (wire_answer answer) given left }
+{
+    let session = words_back(&answer, given, left);
     let (refusal, bytes) = match answer {
         Ok(n) => (0, n),
         Err(e) => (e.number(), 0),

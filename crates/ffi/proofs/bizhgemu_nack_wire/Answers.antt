@@ -2,12 +2,11 @@
 use Rattle.model.specs.Calls as Calls
 use Rattle.model.specs.Contract.{storage}
 use Rattle.ffi_words.specs.Told as Told
-use Rattle.ffi_words.proofs.Told.{wire_as}
-use Rattle.ffi.proofs.Given.{came_back}
+use Rattle.ffi.proofs.Given.{was_read}
 use borrow.Author.Rules.{rules}
 use Rattle.ffi.proofs.bizhgemu_nack_wire.Goals as goal
 
 pub returns : goal.returns
 returns c =
     let a = c.args in
-    came_back Told.polled_wire (Calls.nack_wire a.now a.out.now) a.session (storage a.entries.now a.payloads.now a.gaps.now a.remembered.now) _ c.in-Some.is c.read.ensures (search rules) c.wire_told-2.ensures c.words_back-words.ensures (wire_as _)
+    was_read Told.polled_wire (Calls.nack_wire a.now a.out.now) a.session (storage a.entries.now a.payloads.now a.gaps.now a.remembered.now) _ c.in-Some.is c.read.ensures (search rules) c.wire_told.ensures

@@ -2,12 +2,11 @@
 use Rattle.model.specs.Calls as Calls
 use Rattle.model.specs.Contract.{storage}
 use Rattle.ffi_words.specs.Told as Told
-use Rattle.ffi_words.proofs.Told.{media_as}
-use Rattle.ffi.proofs.Given.{came_back}
+use Rattle.ffi.proofs.Given.{was_read}
 use borrow.Author.Rules.{rules}
 use Rattle.ffi.proofs.bizhgemu_push.Goals as goal
 
 pub returns : goal.returns
 returns c =
     let a = c.args in
-    came_back Told.pushed (Calls.media a.now a.datagram.now) a.session (storage a.entries.now a.payloads.now a.gaps.now a.remembered.now) _ c.in-Some.is c.read.ensures (search rules) c.media_told-2.ensures c.words_back-words.ensures (media_as _)
+    was_read Told.pushed (Calls.media a.now a.datagram.now) a.session (storage a.entries.now a.payloads.now a.gaps.now a.remembered.now) _ c.in-Some.is c.read.ensures (search rules) c.media_told.ensures
