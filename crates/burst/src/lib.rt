@@ -38,14 +38,20 @@ struct Stepped {
     standing: Standing,
 }
 
-// Whether no end is below the one before it or past the buffer, of so many bytes.
+// Whether no end is below the one before it or past the buffer, of so many bytes. The first that is ends the search, so that a refused list
+// costs no more than its ends up to there, however long it is.
+#[tactic(auto, using(crate::proofs::Ends::ending))]
 fn ends_fit(bytes: usize, ends: &[u64]) -> bool
     ensures { result ≡ ends_fit bytes 0 ends.now }
 {
-    let Some(&last) = ends.last() else {
-        return true;
-    };
-    ends.is_sorted() && last <= bytes as u64
+    let mut from = 0;
+    for &end in ends {
+        if end < from || (bytes as u64) < end {
+            return false;
+        }
+        from = end;
+    }
+    true
 }
 
 // 15, for the whole call.

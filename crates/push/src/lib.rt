@@ -183,16 +183,16 @@ impl Accepted<'_> {
 // Stays: instant and datagram are one call's and the session outlives it; a type of the two would be made at each call and taken apart here.
 // And a type that says `Readable` would be made anew after each write to a session, for these two functions.
 fn judge_packet(
-    q: &Held,
+    s: Session,
+    gaps: &[u64],
     instant: u64,
     datagram: &[u8],
     packet: RtpPacket,
 ) -> Result<Found, Refusal>
-    requires readable { Readable q.now.session q.now.gaps.now }
-    requires read { Read instant datagram.now packet q.now.session.queue }
-    ensures { (entries payloads remembered : List ℕ) → JudgedAs instant datagram.now (parse (stored q.now.session entries payloads q.now.gaps.now remembered)) result }
+    requires readable { Readable s gaps.now }
+    requires read { Read instant datagram.now packet s.queue }
+    ensures { (entries payloads remembered : List ℕ) → JudgedAs instant datagram.now (parse (stored s entries payloads gaps.now remembered)) result }
 {
-    let s = q.session;
     let payload = rtp_packet::payload(datagram, packet);
     let entry = extended_entry(
         s.queue,
@@ -201,7 +201,7 @@ fn judge_packet(
         packet.sequence_number,
         payload.len(),
     );
-    let place = place::media_place(q, entry.number);
+    let place = place::media_place(s, gaps, entry.number);
     check_packet(s, entry, place)?;
     Ok(Found {
         instant,
@@ -212,16 +212,15 @@ fn judge_packet(
 }
 
 // The checks of a media packet after 16, in a datagram that came at this instant. Of the storage the gaps alone are read.
-// Stays: as `judge_packet`.
-pub fn judge(q: &Held, instant: u64, datagram: &[u8]) -> Result<Found, Refusal>
-    requires { Readable q.now.session q.now.gaps.now }
-    ensures { (entries payloads remembered : List ℕ) → JudgedAs instant datagram.now (parse (stored q.now.session entries payloads q.now.gaps.now remembered)) result }
+// Stays: as `judge_packet`; and a `Held` would ask for the other three slices too, all of them exclusive.
+pub fn judge(s: Session, gaps: &[u64], instant: u64, datagram: &[u8]) -> Result<Found, Refusal>
+    requires { Readable s gaps.now }
+    ensures { (entries payloads remembered : List ℕ) → JudgedAs instant datagram.now (parse (stored s entries payloads gaps.now remembered)) result }
 {
-    let queue = q.session.queue;
-    checks::check_clock(queue, instant)?;
-    let senders = queue.config.senders;
+    checks::check_clock(s.queue, instant)?;
+    let senders = s.queue.config.senders;
     let packet = rtp_packet::parse_media(datagram, senders.pt, senders.ssrc)?;
-    judge_packet(q, instant, datagram, packet)
+    judge_packet(s, gaps, instant, datagram, packet)
 }
 
 // What an accepted packet makes of the session, in storage that is settled. It cannot refuse.
@@ -245,7 +244,9 @@ pub fn push_checked(q: &mut Held, instant: u64, datagram: &[u8]) -> Result<Media
     ensures same_slices { SameSlices q.old q.new }
     ensures does { Does (media instant datagram.now) (held q.old) (media_answer result) (held q.new) [] }
 {
-    let found = judge(q, instant, datagram)?;
+    // By a variable: of a field that is lent on from here itself, no more than its length would be known afterwards.
+    let gaps = &mut *q.gaps;
+    let found = judge(q.session, gaps, instant, datagram)?;
     q.settle();
     Ok(apply(q, found, datagram))
 }
@@ -257,7 +258,8 @@ pub fn push_settled(q: &mut Held, instant: u64, datagram: &[u8]) -> Result<Media
     ensures same_slices { SameSlices q.old q.new }
     ensures does { Does (media instant datagram.now) (held q.old) (media_answer result) (held q.new) [] }
 {
-    let found = judge(q, instant, datagram)?;
+    let gaps = &mut *q.gaps;
+    let found = judge(q.session, gaps, instant, datagram)?;
     Ok(apply(q, found, datagram))
 }
 

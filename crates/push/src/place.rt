@@ -10,9 +10,9 @@ ghost use Rattle.packet_gaps.specs.Gaps.{GapsIn};
 ghost use Rattle.session.specs.Place as Spec;
 ghost use Rattle.push.specs.Media.{Readable, Takes};
 
+use model::Session;
 use rtp::ExtendedSequenceNumber;
 use session::push::Place;
-use storage::Held;
 
 // 001's MAX_GAP_SIZE.
 const MAX_GAP_SIZE: u64 = 1000;
@@ -21,9 +21,14 @@ const MAX_GAP_SIZE: u64 = 1000;
 // Stays: a type of a session that check 16 passed would be made anew after each write (`settle`, `apply`), for a clause of one line; and
 // with the number it would be one more, made for this call.
 #[tactic(auto, using(rtp::proofs::Order::less), unfolding(session::specs::Place::place, model::specs::Rules::place_of))]
-fn place_after(h: ExtendedSequenceNumber, q: &Held, x: ExtendedSequenceNumber) -> Place
-    requires { Readable q.now.session q.now.gaps.now }
-    ensures { Spec.place result ≡ Rules.place_of (Some h.0) (gaps_of q.now.gaps.now q.now.session.gaps) x.0 }
+fn place_after(
+    h: ExtendedSequenceNumber,
+    s: Session,
+    gaps: &[u64],
+    x: ExtendedSequenceNumber,
+) -> Place
+    requires { Readable s gaps.now }
+    ensures { Spec.place result ≡ Rules.place_of (Some h.0) (gaps_of gaps.now s.gaps) x.0 }
 {
     if h < x {
         if x.0 - h.0 <= MAX_GAP_SIZE {
@@ -31,7 +36,7 @@ fn place_after(h: ExtendedSequenceNumber, q: &Held, x: ExtendedSequenceNumber) -
         }
         return Place::Far(h);
     }
-    if packet_gaps::contains(q.gaps, q.session.gaps, x) {
+    if packet_gaps::contains(gaps, s.gaps, x) {
         return Place::Fills;
     }
     Place::Other
@@ -41,17 +46,16 @@ fn place_after(h: ExtendedSequenceNumber, q: &Held, x: ExtendedSequenceNumber) -
 // Stays: a type of a session that check 16 passed would be made anew after each write (`settle`, `apply`), for a clause of one line; and
 // with the number it would be one more, made for this call.
 #[tactic(auto, unfolding(session::specs::Place::place, model::specs::Push::place_in, model::specs::Rules::place_of, model::specs::Records::highest_of))]
-pub(crate) fn media_place(q: &Held, x: ExtendedSequenceNumber) -> Place
-    requires { Readable q.now.session q.now.gaps.now }
-    ensures { Spec.place result ≡ Push.place_in q.now.session.queue (gaps_of q.now.gaps.now q.now.session.gaps) x.0 }
+pub(crate) fn media_place(s: Session, gaps: &[u64], x: ExtendedSequenceNumber) -> Place
+    requires { Readable s gaps.now }
+    ensures { Spec.place result ≡ Push.place_in s.queue (gaps_of gaps.now s.gaps) x.0 }
 {
-    let queue = q.session.queue;
-    if session::passed(queue, x) {
+    if session::passed(s.queue, x) {
         return Place::Other;
     }
-    match queue.last {
+    match s.queue.last {
         None => Place::First,
-        Some(r) => place_after(r.number, q, x),
+        Some(r) => place_after(r.number, s, gaps, x),
     }
 }
 
