@@ -164,7 +164,7 @@ impl Held<'_> {
         )
     }
 
-    // 16, then 8: the first checks of a call with an instant and no output.
+    // 16, then 8.
     pub fn check_session_and_clock(&self, instant: u64) -> Result<(), Refusal>
         ensures { refusal_of result ≡ or_else (session_refusal (held self.now)) (clock_refusal self.now.session.queue instant) }
     {
