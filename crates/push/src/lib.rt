@@ -35,14 +35,15 @@ pub enum Media {
     Dropped,
 }
 
-// What a media packet changes: the session, and three of the slices that are lent for it. The remembered numbers it leaves alone: they are lent
-// beside it so that the contracts can say so.
+// A session with the slices that are lent for it, as a media packet needs them: the remembered numbers it leaves alone, so they are lent to be
+// read.
 #[derive(Drop)]
 struct Receiving<'a> {
     session: &'a mut Session,
     entries: &'a mut [u64],
     payloads: &'a mut [u8],
     gaps: &'a mut [u64],
+    remembered: &'a [u64],
 }
 
 // What was found of a datagram that no check turns back: its packet, the entry that it becomes, and where its number stands.
@@ -126,11 +127,11 @@ impl Accepted<'_> {
     }
 
     // Queues it below the depth.
-    fn insert(&self, q: &mut Receiving, remembered: &[u64])
-        requires waiting { Waiting self.now (receiving q.old remembered.now) }
+    fn insert(&self, q: &mut Receiving)
+        requires waiting { Waiting self.now (receiving q.old) }
         requires below { q.old.session.now.entries < q.old.session.now.queue.config.settings.max_entries }
         ensures same_parts { SameParts q.old q.new }
-        ensures placed { receiving q.new remembered.now ≡ placed_by self.now (receiving q.old remembered.now) }
+        ensures placed { receiving q.new ≡ placed_by self.now (receiving q.old) }
     {
         let s = *q.session;
         let f = self.found;
@@ -147,11 +148,11 @@ impl Accepted<'_> {
     }
 
     // Queues it at the depth or above: the front one is pushed out, and the gaps below that go.
-    fn push_out(&self, q: &mut Receiving, remembered: &[u64])
-        requires waiting { Waiting self.now (receiving q.old remembered.now) }
+    fn push_out(&self, q: &mut Receiving)
+        requires waiting { Waiting self.now (receiving q.old) }
         requires full { q.old.session.now.queue.config.settings.max_entries ≤ q.old.session.now.entries }
         ensures same_parts { SameParts q.old q.new }
-        ensures placed { receiving q.new remembered.now ≡ placed_by self.now (receiving q.old remembered.now) }
+        ensures placed { receiving q.new ≡ placed_by self.now (receiving q.old) }
     {
         let s = *q.session;
         let f = self.found;
@@ -170,11 +171,11 @@ impl Accepted<'_> {
 
     // Drops it or queues it.
     #[tactic(auto, using(crate::proofs::Queueing::full_is, crate::proofs::Queueing::dropped_fits, crate::proofs::Queueing::dropped_packet), unfolding(model::specs::Calls::placed_answer))]
-    fn place(&self, q: &mut Receiving, remembered: &[u64]) -> Media
-        requires { Fit self.now (receiving q.old remembered.now) }
+    fn place(&self, q: &mut Receiving) -> Media
+        requires { Fit self.now (receiving q.old) }
         ensures same_parts { SameParts q.old q.new }
         ensures answer_value { media_answer (Ok result) ≡ placed_answer (Spec.place self.now.found.place) }
-        ensures placed { receiving q.new remembered.now ≡ placed_by self.now (receiving q.old remembered.now) }
+        ensures placed { receiving q.new ≡ placed_by self.now (receiving q.old) }
     {
         if !session::push::waits(self.found.place) {
             let queue = session::push::dropped(q.session.queue, self.received());
@@ -182,9 +183,9 @@ impl Accepted<'_> {
             return Media::Dropped;
         }
         if is_full(*q.session) {
-            self.push_out(q, remembered);
+            self.push_out(q);
         } else {
-            self.insert(q, remembered);
+            self.insert(q);
         }
         Media::Queued
     }
@@ -258,8 +259,9 @@ pub fn apply(
         entries,
         payloads,
         gaps,
+        remembered,
     };
-    accepted.place(&mut receiving, remembered)
+    accepted.place(&mut receiving)
 }
 
 // A media packet in a session that check 16 passes: judge, settle, apply.
