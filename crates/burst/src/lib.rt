@@ -10,6 +10,7 @@ ghost use Rattle.model.specs.Lists.{some?};
 ghost use Rattle.model.specs.Calls.{media};
 ghost use Rattle.model.specs.Contract.{Does};
 ghost use Rattle.storage.specs.Held.{held, SameSlices};
+ghost use Rattle.storage.specs.Settled.{Settled};
 ghost use Rattle.push.specs.Answers.{media_answer};
 ghost use Rattle.burst.specs.Burst.{datagrams, pushed, answer_number, is_accepted, answer_numbers, ends_fit, burst_refusal, written, did_burst};
 ghost use Rattle.burst.specs.Standing.{Stands, after_sound};
@@ -102,6 +103,24 @@ fn after_sound(answer: Result<Media, Refusal>) -> Standing
     }
 }
 
+// The single media call on what is settled, which leaves the remembered numbers alone.
+// Stays: the instant is one call's, a datagram is that of one turn; and a type that says settled would not hold within the call.
+fn push_settled(q: &mut Held, instant: u64, datagram: &[u8]) -> Result<Media, Refusal>
+    requires { Settled (held q.old) }
+    ensures same_slices { SameSlices q.old q.new }
+    ensures does { Does (media instant datagram.now) (held q.old) (media_answer result) (held q.new) [] }
+{
+    // By variables: of a field that is lent on from here itself, no more than its length would be known afterwards.
+    let session = &mut q.session;
+    let entries = &mut *q.entries;
+    let payloads = &mut *q.payloads;
+    let gaps = &mut *q.gaps;
+    let remembered = &mut *q.remembered;
+    push::push_settled(
+        session, entries, payloads, gaps, remembered, instant, datagram,
+    )
+}
+
 // One datagram: the single media call, without the checks and the zeros that are behind the session already.
 // Stays: the instant is one call's, a datagram is that of one turn; a type of them would be made by `push_each` at each turn.
 fn push_next(q: &mut Held, standing: Standing, instant: u64, datagram: &[u8]) -> Stepped
@@ -122,7 +141,7 @@ fn push_next(q: &mut Held, standing: Standing, instant: u64, datagram: &[u8]) ->
             Stepped { answer, standing }
         }
         Standing::Settled => {
-            let answer = push::push_settled(q, instant, datagram);
+            let answer = push_settled(q, instant, datagram);
             Stepped { answer, standing }
         }
     }

@@ -13,6 +13,7 @@ ghost use Rattle.session.specs.Place as Spec;
 ghost use Rattle.push.specs.Answers.{media_answer};
 ghost use Rattle.model.specs.Contract.{stored, Does};
 ghost use Rattle.storage.specs.Held.{held, SameSlices};
+ghost use Rattle.push.specs.Receiving.{receiving, SameParts};
 ghost use Rattle.push.specs.Media.{Readable, Read, FoundIn, JudgedAs, Fit, Waiting, received, placed_by};
 ghost use Rattle.storage.specs.Settled.{Settled};
 
@@ -32,6 +33,17 @@ pub mod rtx;
 pub enum Media {
     Queued,
     Dropped,
+}
+
+// A session with the slices that are lent for it, as a media packet needs them: the remembered numbers it leaves alone, so they are lent to be
+// read.
+#[derive(Drop)]
+struct Receiving<'a> {
+    session: &'a mut Session,
+    entries: &'a mut [u64],
+    payloads: &'a mut [u8],
+    gaps: &'a mut [u64],
+    remembered: &'a [u64],
 }
 
 // What was found of a datagram that no check turns back: its packet, the entry that it becomes, and where its number stands.
@@ -115,19 +127,19 @@ impl Accepted<'_> {
     }
 
     // Queues it below the depth.
-    fn insert(&self, q: &mut Held)
-        requires waiting { Waiting self.now (held q.old) }
-        requires below { q.old.session.entries < q.old.session.queue.config.settings.max_entries }
-        ensures same_slices { SameSlices q.old q.new }
-        ensures placed { held q.new ≡ placed_by self.now (held q.old) }
+    fn insert(&self, q: &mut Receiving)
+        requires waiting { Waiting self.now (receiving q.old) }
+        requires below { q.old.session.now.entries < q.old.session.now.queue.config.settings.max_entries }
+        ensures same_parts { SameParts q.old q.new }
+        ensures placed { receiving q.new ≡ placed_by self.now (receiving q.old) }
     {
-        let s = q.session;
+        let s = *q.session;
         let f = self.found;
         let e = f.entry;
         let queue = session::push::queued(s.queue, self.received(), e.size as u64, f.place);
         entries::insert(q.entries, q.payloads, s.entries, e, self.payload);
         let open = place::gaps_after(q.gaps, s.gaps, f.place, e.number, f.instant);
-        q.session = Session {
+        *q.session = Session {
             queue,
             entries: s.entries + 1,
             gaps: open,
@@ -136,13 +148,13 @@ impl Accepted<'_> {
     }
 
     // Queues it at the depth or above: the front one is pushed out, and the gaps below that go.
-    fn push_out(&self, q: &mut Held)
-        requires waiting { Waiting self.now (held q.old) }
-        requires full { q.old.session.queue.config.settings.max_entries ≤ q.old.session.entries }
-        ensures same_slices { SameSlices q.old q.new }
-        ensures placed { held q.new ≡ placed_by self.now (held q.old) }
+    fn push_out(&self, q: &mut Receiving)
+        requires waiting { Waiting self.now (receiving q.old) }
+        requires full { q.old.session.now.queue.config.settings.max_entries ≤ q.old.session.now.entries }
+        ensures same_parts { SameParts q.old q.new }
+        ensures placed { receiving q.new ≡ placed_by self.now (receiving q.old) }
     {
-        let s = q.session;
+        let s = *q.session;
         let f = self.found;
         let e = f.entry;
         let queued = session::push::queued(s.queue, self.received(), e.size as u64, f.place);
@@ -150,7 +162,7 @@ impl Accepted<'_> {
         let open = place::gaps_after(q.gaps, s.gaps, f.place, e.number, f.instant);
         let left = place::gaps_from(q.gaps, open, front);
         let queue = session::push::pushed_out(queued, front);
-        q.session = Session {
+        *q.session = Session {
             queue,
             gaps: left,
             ..s
@@ -159,18 +171,18 @@ impl Accepted<'_> {
 
     // Drops it or queues it.
     #[tactic(auto, using(crate::proofs::Queueing::full_is, crate::proofs::Queueing::dropped_fits, crate::proofs::Queueing::dropped_packet), unfolding(model::specs::Calls::placed_answer))]
-    fn place(&self, q: &mut Held) -> Media
-        requires { Fit self.now (held q.old) }
-        ensures same_slices { SameSlices q.old q.new }
+    fn place(&self, q: &mut Receiving) -> Media
+        requires { Fit self.now (receiving q.old) }
+        ensures same_parts { SameParts q.old q.new }
         ensures answer_value { media_answer (Ok result) ≡ placed_answer (Spec.place self.now.found.place) }
-        ensures placed { held q.new ≡ placed_by self.now (held q.old) }
+        ensures placed { receiving q.new ≡ placed_by self.now (receiving q.old) }
     {
         if !session::push::waits(self.found.place) {
             let queue = session::push::dropped(q.session.queue, self.received());
             q.session.queue = queue;
             return Media::Dropped;
         }
-        if is_full(q.session) {
+        if is_full(*q.session) {
             self.push_out(q);
         } else {
             self.insert(q);
@@ -224,17 +236,32 @@ pub fn judge(s: Session, gaps: &[u64], instant: u64, datagram: &[u8]) -> Result<
 }
 
 // What an accepted packet makes of the session, in storage that is settled. It cannot refuse.
-// Stays: a type that says settled would not hold between the writes to entries, gaps and session that this makes.
-pub fn apply(q: &mut Held, found: Found, datagram: &[u8]) -> Media
-    requires settled { Settled (held q.old) }
-    requires found_in { FoundIn found datagram.now (parse (held q.old)) }
-    ensures same_slices { SameSlices q.old q.new }
-    ensures answer_value { media_answer (Ok result) ≡ answered (media found.instant datagram.now) (parse (held q.old)) }
-    ensures left { held q.new ≡ write (taken (media found.instant datagram.now) (parse (held q.old))) }
+// Stays: the remembered numbers are lent to be read, where a `Held` would ask for them to be written; a struct of the others that is made
+// beside a `Held` has no rule yet. And a type that says settled would not hold between the writes to entries, gaps and session that this makes.
+pub fn apply(
+    session: &mut Session,
+    entries: &mut [u64],
+    payloads: &mut [u8],
+    gaps: &mut [u64],
+    remembered: &[u64],
+    found: Found,
+    datagram: &[u8],
+) -> Media
+    requires settled { Settled (stored session.old entries.old payloads.old gaps.old remembered.now) }
+    requires found_in { FoundIn found datagram.now (parse (stored session.old entries.old payloads.old gaps.old remembered.now)) }
+    ensures answer_value { media_answer (Ok result) ≡ answered (media found.instant datagram.now) (parse (stored session.old entries.old payloads.old gaps.old remembered.now)) }
+    ensures left { stored session.new entries.new payloads.new gaps.new remembered.now ≡ write (taken (media found.instant datagram.now) (parse (stored session.old entries.old payloads.old gaps.old remembered.now))) }
 {
     let payload = rtp_packet::payload(datagram, found.packet);
     let accepted = Accepted { found, payload };
-    accepted.place(q)
+    let mut receiving = Receiving {
+        session,
+        entries,
+        payloads,
+        gaps,
+        remembered,
+    };
+    accepted.place(&mut receiving)
 }
 
 // A media packet in a session that check 16 passes: judge, settle, apply.
@@ -244,23 +271,38 @@ pub fn push_checked(q: &mut Held, instant: u64, datagram: &[u8]) -> Result<Media
     ensures same_slices { SameSlices q.old q.new }
     ensures does { Does (media instant datagram.now) (held q.old) (media_answer result) (held q.new) [] }
 {
-    // By a variable: of a field that is lent on from here itself, no more than its length would be known afterwards.
+    // By variables, here and below: of a field that is lent on from here itself, no more than its length would be known afterwards.
     let gaps = &mut *q.gaps;
     let found = judge(q.session, gaps, instant, datagram)?;
     q.settle();
-    Ok(apply(q, found, datagram))
+    let session = &mut q.session;
+    let entries = &mut *q.entries;
+    let payloads = &mut *q.payloads;
+    let gaps = &mut *q.gaps;
+    let remembered = &mut *q.remembered;
+    Ok(apply(
+        session, entries, payloads, gaps, remembered, found, datagram,
+    ))
 }
 
 // The same where zeros stand in the unused places already: judge, apply.
-// Stays: instant and datagram are one call's, as of `judge`; and a type that says settled would not hold within `apply`.
-pub fn push_settled(q: &mut Held, instant: u64, datagram: &[u8]) -> Result<Media, Refusal>
-    requires { Settled (held q.old) }
-    ensures same_slices { SameSlices q.old q.new }
-    ensures does { Does (media instant datagram.now) (held q.old) (media_answer result) (held q.new) [] }
+// Stays: as `apply`; instant and datagram are one call's, as of `judge`.
+pub fn push_settled(
+    session: &mut Session,
+    entries: &mut [u64],
+    payloads: &mut [u8],
+    gaps: &mut [u64],
+    remembered: &[u64],
+    instant: u64,
+    datagram: &[u8],
+) -> Result<Media, Refusal>
+    requires { Settled (stored session.old entries.old payloads.old gaps.old remembered.now) }
+    ensures { Does (media instant datagram.now) (stored session.old entries.old payloads.old gaps.old remembered.now) (media_answer result) (stored session.new entries.new payloads.new gaps.new remembered.now) [] }
 {
-    let gaps = &mut *q.gaps;
-    let found = judge(q.session, gaps, instant, datagram)?;
-    Ok(apply(q, found, datagram))
+    let found = judge(*session, gaps, instant, datagram)?;
+    Ok(apply(
+        session, entries, payloads, gaps, remembered, found, datagram,
+    ))
 }
 
 // A media packet, in a datagram that came at this instant.

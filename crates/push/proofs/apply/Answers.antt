@@ -1,5 +1,6 @@
--- `apply` meets its contract: what was found is what `place` asks for.
-use Rattle.storage.specs.Held.{held}
+-- `apply` meets its contract: what was found is what `place` asks for, and what `place` leaves is what is lent here.
+use mathlib.Core.Path.{◌∙◌}
+use borrow.Author.Rules.{rules}
 use Rattle.push.specs.declared.Accepted.{Accepted}
 use Rattle.push.proofs.Pushing.{payload-is, fit_of, answered_as, taken_as}
 use Rattle.push.proofs.apply.Goals as goal
@@ -14,9 +15,7 @@ returns c =
     let a = c.args in
     let x : Accepted = record { found = a.found; payload = c.payload-payload.result } in
     let part = payload-is _ _ _ c.payload-payload.ensures c.requires.found_in.packet in
-    let p = c.place.ensures in
     record {
-      same_slices = p.same_slices;
-      answer_value = answered_as x a.datagram.now (held a.q.now) part c.requires.found_in _ p.answer_value;
-      left = taken_as x a.datagram.now (held a.q.now) part c.requires.found_in _ p.placed;
+      answer_value = answered_as x a.datagram.now _ part c.requires.found_in _ c.place.ensures.answer_value;
+      left = taken_as x a.datagram.now _ part c.requires.found_in _ (search rules ∙ c.place.ensures.placed);
     }

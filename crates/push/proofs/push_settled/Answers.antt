@@ -13,13 +13,13 @@ judge-requires c = readable _ c.requires.sound
 
 pub apply-requires : goal.apply-requires
 unfolding JudgedAs
-apply-requires c = record { settled = c.requires; found_in = (c.in_ok-found.ensures (c.args.q.now.entries.now) c.args.q.now.payloads.now c.args.q.now.remembered.now).1 }
+apply-requires c = record { settled = c.requires; found_in = (c.in_ok-found.ensures c.args.entries.now c.args.payloads.now c.args.remembered.now).1 }
 
-pub returns-in_err-found-clause-does : goal.returns-in_err-found-clause-does
+pub returns-in_err-found : goal.returns-in_err-found
 unfolding output_of
-returns-in_err-found-clause-does c =
-    refused_said placed _ _ _ _ c.from_residual.ensures.1 (judged_refused _ _ _ c.requires.sound _ (c.in_err-found.ensures c.args.q.now.entries.now c.args.q.now.payloads.now c.args.q.now.remembered.now))
+returns-in_err-found c =
+    refused_said placed _ _ _ _ c.from_residual.ensures.1 (judged_refused _ _ _ c.requires.sound _ (c.in_err-found.ensures c.args.entries.now c.args.payloads.now c.args.remembered.now))
 
-pub returns-clause-does : goal.returns-clause-does
-returns-clause-does c =
-    push_applied _ _ _ c.requires.sound _ (c.in_ok-found.ensures c.args.q.now.entries.now c.args.q.now.payloads.now c.args.q.now.remembered.now) _ _ _ refl c.apply.ensures.answer_value c.apply.ensures.left
+pub returns : goal.returns
+returns c =
+    push_applied _ _ _ c.requires.sound _ (c.in_ok-found.ensures c.args.entries.now c.args.payloads.now c.args.remembered.now) _ _ _ refl c.apply.ensures.answer_value c.apply.ensures.left

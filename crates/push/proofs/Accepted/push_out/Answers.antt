@@ -27,7 +27,7 @@ pub pushed_out-queue-requires : goal.pushed_out-queue-requires
 pushed_out-queue-requires c =
     let w = c.requires.waiting in
     let g = c.gaps_after-open.ensures in
-    still_fits _ _ w.fit w.queued c.requires.full _ c.args.q.now.session.queue _ 0 0 _ [] [] [] (rw c.received.ensures at c.queued-queued.ensures) g.value g.gaps_after
+    still_fits _ _ w.fit w.queued c.requires.full _ c.args.q.now.session.now.queue _ 0 0 _ [] [] [] (rw c.received.ensures at c.queued-queued.ensures) g.value g.gaps_after
 
 pub returns-clause-placed : goal.returns-clause-placed
 returns-clause-placed c =
