@@ -4,6 +4,7 @@
 // that the session expects, and the datagram. What is no digit is passed over. A line that begins with # is written as it came.
 #![tactic(auto)]
 
+use best_effort::BestEffort;
 use memchr::memchr;
 use refusals::Refusal;
 use rtp::{SequenceNumber, Ssrc};
@@ -179,7 +180,7 @@ fn run<R: Read>(
 
 fn main(rt: HostRuntime) -> anyhow::Result<()> {
     let mut input = BufReader::new(rt.alloc(), rt.stdin())?;
-    let mut out = BufWriter::new(rt.alloc(), rt.stdout())?;
+    let mut out = BufWriter::new(rt.alloc(), BestEffort::new(rt.stdout()))?;
     run(rt.alloc(), &mut input, &mut out)?;
     Ok(out.flush()?)
 }

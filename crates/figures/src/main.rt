@@ -20,6 +20,7 @@
 mod answers;
 mod line;
 
+use best_effort::BestEffort;
 use line::{Figure, Line};
 use rtx_state::RtxRtt;
 use std::io::{self, BufReader, BufWriter, Read, Write};
@@ -59,7 +60,7 @@ fn answer<W: Write>(line: &Line, out: &mut W) -> io::Result<()> {
 // the other end of a pipe.
 fn main(rt: HostRuntime) -> io::Result<()> {
     let mut input = BufReader::new(rt.alloc(), rt.stdin())?;
-    let mut out = BufWriter::new(rt.alloc(), rt.stdout())?;
+    let mut out = BufWriter::new(rt.alloc(), BestEffort::new(rt.stdout()))?;
     for _ in 0..LINES {
         if input.buffer().len() < line::LENGTH {
             out.flush()?;
