@@ -4,12 +4,14 @@
 // that the session expects, and the datagram. What is no digit is passed over. A line that begins with # is written as it came.
 #![tactic(auto)]
 
+use best_effort::BestEffort;
+use memchr::memchr;
 use refusals::Refusal;
 use rtp::{SequenceNumber, Ssrc};
 use rtp_packet::RtpPacket;
-use std::alloc::Global;
+use std::alloc::{AllocError, Global};
 use std::fmt::{self, Display, Formatter};
-use std::io::{BufRead, BufReader, BufWriter, Write};
+use std::io::{self, BufRead, BufReader, BufWriter, Read, Write};
 
 // Of a longer line only so many bytes count.
 const LONGEST: usize = 8192;
@@ -124,18 +126,53 @@ fn answer(alloc: Global, line: &[u8], out: &mut impl Write) -> anyhow::Result<()
     Ok(())
 }
 
-// To the end of the input, or a read that fails; a last line without line feed has no answer.
-fn run(alloc: Global, input: &mut impl BufRead, out: &mut impl Write) -> anyhow::Result<()> {
-    let mut line = Vec::new(alloc);
+// Puts a part of a line behind what is there of it, as far as `LONGEST` goes.
+fn gather(line: &mut Vec<u8>, part: &[u8]) -> Result<(), AllocError> {
+    let room = LONGEST.saturating_sub(line.len());
+    let size = part.len().min(room);
+    line.extend_from_slice(&part[..size])
+}
+
+// The next line, without its line feed; false at the end of the input, for which a read that fails is taken: what has no line feed is no
+// line. Answers are written before more input is waited for, for a program at the other end of a pipe.
+fn next_line<R: Read>(
+    input: &mut BufReader<R>,
+    out: &mut impl Write,
+    line: &mut Vec<u8>,
+) -> io::Result<bool> {
+    line.clear();
     for _ in 0..u64::MAX {
-        line.clear();
-        if input.read_until(b'\n', &mut line).is_err() {
+        if input.buffer().is_empty() {
+            out.flush()?;
+        }
+        let block = input.fill_buf().unwrap_or(b"");
+        if block.is_empty() {
+            return Ok(false);
+        }
+        let end = memchr(b'\n', block);
+        let size = end.unwrap_or(block.len());
+        gather(line, &block[..size])?;
+        if end.is_some() {
+            input.consume(size + 1);
+            return Ok(true);
+        }
+        input.consume(size);
+    }
+    Ok(false)
+}
+
+// To the end of the input.
+fn run<R: Read>(
+    alloc: Global,
+    input: &mut BufReader<R>,
+    out: &mut impl Write,
+) -> anyhow::Result<()> {
+    let mut line = Vec::with_capacity(alloc, LONGEST)?;
+    for _ in 0..u64::MAX {
+        if !next_line(input, out, &mut line)? {
             break;
         }
-        let Some(text) = line.strip_suffix(b"\n") else {
-            break;
-        };
-        answer(alloc, text.get(..LONGEST).unwrap_or(text), out)?;
+        answer(alloc, &line, out)?;
         writeln!(out)?;
     }
     Ok(())
@@ -143,7 +180,7 @@ fn run(alloc: Global, input: &mut impl BufRead, out: &mut impl Write) -> anyhow:
 
 fn main(rt: HostRuntime) -> anyhow::Result<()> {
     let mut input = BufReader::new(rt.alloc(), rt.stdin())?;
-    let mut out = BufWriter::new(rt.alloc(), rt.stdout())?;
+    let mut out = BufWriter::new(rt.alloc(), BestEffort::new(rt.stdout()))?;
     run(rt.alloc(), &mut input, &mut out)?;
     Ok(out.flush()?)
 }

@@ -20,6 +20,7 @@
 mod answers;
 mod line;
 
+use best_effort::BestEffort;
 use line::{Figure, Line};
 use rtx_state::RtxRtt;
 use std::io::{self, BufReader, BufWriter, Read, Write};
@@ -55,11 +56,15 @@ fn answer<W: Write>(line: &Line, out: &mut W) -> io::Result<()> {
     writeln!(out)
 }
 
-// A line that is cut off ends the input, and so does a read that fails.
+// A line that is cut off ends the input, and so does a read that fails. Answers are written before more input is waited for, for a program at
+// the other end of a pipe.
 fn main(rt: HostRuntime) -> io::Result<()> {
     let mut input = BufReader::new(rt.alloc(), rt.stdin())?;
-    let mut out = BufWriter::new(rt.alloc(), rt.stdout())?;
+    let mut out = BufWriter::new(rt.alloc(), BestEffort::new(rt.stdout()))?;
     for _ in 0..LINES {
+        if input.buffer().len() < line::LENGTH {
+            out.flush()?;
+        }
         let mut line = [0; line::LENGTH];
         if input.read_exact(&mut line).is_err() {
             break;

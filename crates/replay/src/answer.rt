@@ -1,5 +1,5 @@
 // Answers as docs/TRACE.md has them ("Calls").
-use crate::receiver::Receiver;
+use crate::state::State;
 use config::Settings;
 use poll::HandedOut;
 use push::Media;
@@ -155,7 +155,7 @@ pub enum Answer<'a> {
     Timeout(Option<u64>),
     RtxStats(Option<RtpInboundRtxStats>),
     Highest(Option<ExtendedSequenceNumber>),
-    State(&'a Receiver),
+    State(State<'a>),
     ReadSettings(Settings),
     WriteSettings(&'a [u8]),
 }
@@ -182,7 +182,7 @@ impl Answer<'_> {
             Answer::Timeout(Some(n)) => writeln!(out, "after {n}"),
             Answer::RtxStats(Some(s)) => figures(out, s),
             Answer::Highest(Some(n)) => writeln!(out, "highest {}", n.0),
-            Answer::State(receiver) => receiver.write_state(out),
+            Answer::State(state) => state.write(out),
             Answer::ReadSettings(s) => settings(out, s),
             Answer::WriteSettings(octets) => word_and_hex(out, "line", octets),
         }

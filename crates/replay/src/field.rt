@@ -1,8 +1,8 @@
 // Fields of a line (docs/TRACE.md, "Lines").
-ghost use Rattle.std.specs.Prelude.{◌≡◌, ◌≢◌, ℕ, ◌≤◌, ◌<◌, length, slice_index};
+ghost use Rattle.std.specs.Prelude.{length};
 ghost use Rattle.std.specs.Iterator.{at_most};
 
-use memchr::memchr;
+use crate::scan;
 use std::alloc::AllocError;
 
 #[derive(Clone, Copy, Debug, PartialEq, Eq)]
@@ -22,19 +22,9 @@ impl From<AllocError> for ReadError {
 #[derive(Drop)]
 pub struct Fields<'a>(&'a [u8]);
 
-// The place of the first blank, or the length.
-// Stays: the last field ends with the line, so no place is missing.
-fn field_end(line: &[u8]) -> usize
-    ensures within { result ≤ length line.now }
-    ensures before { (k : ℕ) → k < result → slice_index line.now k ≢ 32 }
-    ensures found { result < length line.now → slice_index line.now result ≡ 32 }
-{
-    memchr(b' ', line).unwrap_or(line.len())
-}
-
 // The word that a line begins with, and the fields behind it.
 pub(crate) fn split(line: &[u8]) -> (&[u8], Fields<'_>) {
-    let end = field_end(line);
+    let end = scan::find(line, b' ');
     (&line[..end], Fields(&line[end..]))
 }
 
@@ -49,7 +39,7 @@ impl<'a> Iterator for Fields<'a> {
 
     fn next(&mut self) -> Option<&'a [u8]> {
         let (_, behind) = self.0.split_first()?;
-        let end = field_end(behind);
+        let end = scan::find(behind, b' ');
         self.0 = &behind[end..];
         Some(&behind[..end])
     }

@@ -1,5 +1,5 @@
 // Standard input, line by line.
-use memchr::memchr;
+use crate::scan;
 use std::alloc::AllocError;
 use std::io;
 use std::io::{BufRead, BufReader, Read, Write};
@@ -14,8 +14,9 @@ fn gather(line: &mut Vec<u8>, part: &[u8]) -> Result<(), AllocError> {
     line.extend_from_slice(&part[..size])
 }
 
-// The next line, without its line feed; false where there is none. The end of the input ends a last line that has no line feed, and a read
-// that fails is taken for that end. Answers are written before more input is waited for, for a program at the other end of a pipe.
+// Reads the next line, without its line feed, and answers whether more is to be read. The end of the input ends a last line that has no line
+// feed, a read that fails is taken for that end, and nothing is read after it. Answers are written before more input is waited for, for a
+// program at the other end of a pipe.
 pub(crate) fn next_line<R: Read, W: Write>(
     input: &mut BufReader<R>,
     out: &mut W,
@@ -28,16 +29,16 @@ pub(crate) fn next_line<R: Read, W: Write>(
         }
         let block = input.fill_buf().unwrap_or(b"");
         if block.is_empty() {
-            return Ok(!line.is_empty());
+            return Ok(false);
         }
-        let end = memchr(b'\n', block);
-        let size = end.unwrap_or(block.len());
-        gather(line, &block[..size])?;
-        if end.is_some() {
-            input.consume(size + 1);
+        let end = scan::find(block, b'\n');
+        let is_whole = end < block.len();
+        gather(line, &block[..end])?;
+        if is_whole {
+            input.consume(end + 1);
             return Ok(true);
         }
-        input.consume(size);
+        input.consume(end);
     }
     Ok(false)
 }

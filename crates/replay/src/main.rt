@@ -5,7 +5,8 @@
 // ending, and judged by running them against the Rust. A further call is a variant and an arm in call, an arm in run, and a variant and an arm in
 // answer.
 //
-// Memory is bounded: one block of input, one line and its fields, one block of answers, and the storage of the session that is open.
+// Memory is bounded, and taken before the first line is read: one block of input, one line and its fields, what calls write their answers into,
+// one block of answers, and storage for the largest session, of which each session is lent the part that its D and G ask for.
 #![tactic(auto)]
 
 mod answer;
@@ -15,6 +16,7 @@ mod input;
 mod opening;
 mod receiver;
 mod run;
+mod scan;
 mod state;
 
 use std::io;

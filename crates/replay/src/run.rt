@@ -3,10 +3,12 @@ use crate::answer::{Answer, front};
 use crate::call::{Call, Lent, Reading, SessionCall};
 use crate::field::ReadError;
 use crate::input::LINE;
-use crate::receiver::{Receiver, Storage};
+use crate::receiver::{Receiver, Storage, lend};
+use crate::state::State;
 use crate::{call, input};
+use best_effort::BestEffort;
 use config::Settings;
-use model::Config;
+use model::{Config, Session};
 use poll::{nack, wire};
 use push::rtx;
 use queue::reading;
@@ -31,27 +33,18 @@ struct Outputs {
     numbers: Vec<u16>,
 }
 
-// The first `places` of an output, as far as there are.
-fn lend<T>(output: &mut [T], places: u64) -> &mut [T] {
-    let size = (places as usize).min(output.len());
-    &mut output[..size]
-}
-
 #[derive(Drop)]
 struct Replay {
-    alloc: Global,
-    receiver: Option<Receiver>,
-    // Storage that no session is lent: that of the session before, or of a refused opening.
-    spare: Option<Storage>,
+    session: Option<Session>,
+    storage: Storage,
     outputs: Outputs,
 }
 
 impl Replay {
     fn new(alloc: Global) -> Result<Self, AllocError> {
         Ok(Replay {
-            alloc,
-            receiver: None,
-            spare: None,
+            session: None,
+            storage: Storage::new(alloc)?,
             outputs: Outputs {
                 octets: vec![in alloc; 0u8; OCTETS]?,
                 numbers: vec![in alloc; 0u16; NUMBERS]?,
@@ -59,29 +52,15 @@ impl Replay {
         })
     }
 
-    fn open(&mut self, config: Option<Config>) -> Result<Result<Answer<'_>, Refusal>, AllocError> {
-        let Some(config) = config else {
-            return Ok(Err(Refusal::Settings));
-        };
-        let mut storage = match self.spare.take() {
-            Some(storage) => storage,
-            None => Storage::new(self.alloc)?,
-        };
-        match storage.open(config)? {
-            Ok(session) => {
-                let before = self.receiver.replace(Receiver { session, storage });
-                self.spare = before.map(|r| r.storage);
-                Ok(Ok(Answer::Opened))
-            }
-            Err(refusal) => {
-                self.spare = Some(storage);
-                Ok(Err(refusal))
-            }
-        }
+    fn open(&mut self, config: Option<Config>) -> Result<Answer<'_>, Refusal> {
+        let config = config.ok_or(Refusal::Settings)?;
+        let session = self.storage.open(config)?;
+        self.session = Some(session);
+        Ok(Answer::Opened)
     }
 
     fn read_nacks(&mut self, places: u64, entries: &[u8]) -> Result<Answer<'_>, Refusal> {
-        let numbers = lend(&mut self.outputs.numbers, places);
+        let numbers = lend(&mut self.outputs.numbers, places as usize);
         let count = nack_pairs::read::read(entries, numbers)?;
         Ok(Answer::ReadNacks(front(numbers, count)))
     }
@@ -92,26 +71,27 @@ impl Replay {
         settings: Option<Settings>,
     ) -> Result<Answer<'_>, Refusal> {
         let settings = settings.ok_or(Refusal::Settings)?;
-        let octets = lend(&mut self.outputs.octets, places);
+        let octets = lend(&mut self.outputs.octets, places as usize);
         let size = settings_line::write_line(settings, octets)?;
         Ok(Answer::WriteSettings(front(octets, size)))
     }
 
     fn of_session(&mut self, call: SessionCall<'_>) -> Result<Answer<'_>, Refusal> {
-        match &mut self.receiver {
-            None => Ok(Answer::NoSession),
-            Some(receiver) => on(receiver, &mut self.outputs, call),
-        }
+        let Some(session) = &mut self.session else {
+            return Ok(Answer::NoSession);
+        };
+        let storage = &mut self.storage;
+        on(Receiver { session, storage }, &mut self.outputs, call)
     }
 
-    fn make(&mut self, call: Call<'_>) -> Result<Result<Answer<'_>, Refusal>, AllocError> {
+    fn make(&mut self, call: Call<'_>) -> Result<Answer<'_>, Refusal> {
         // Stays: the reader of a line hands the enum on before there is a session; closures would each hold what the line lends.
         match call {
             Call::Open(config) => self.open(config),
-            Call::ReadNacks { places, entries } => Ok(self.read_nacks(places, entries)),
-            Call::ReadSettings(line) => Ok(read_settings(line)),
-            Call::WriteSettings { places, settings } => Ok(self.write_settings(places, settings)),
-            Call::OfSession(call) => Ok(self.of_session(call)),
+            Call::ReadNacks { places, entries } => self.read_nacks(places, entries),
+            Call::ReadSettings(line) => read_settings(line),
+            Call::WriteSettings { places, settings } => self.write_settings(places, settings),
+            Call::OfSession(call) => self.of_session(call),
         }
     }
 
@@ -124,7 +104,7 @@ impl Replay {
             return Ok(Some(Answer::Unreadable));
         }
         match call::read(line, lent) {
-            Ok(call) => Ok(Some(match self.make(call)? {
+            Ok(call) => Ok(Some(match self.make(call) {
                 Ok(answer) => answer,
                 Err(refusal) => Answer::Refused(refusal),
             })),
@@ -141,7 +121,7 @@ fn read_settings<'a>(line: &[u8]) -> Result<Answer<'a>, Refusal> {
 
 // A call on an open session.
 fn on<'a>(
-    receiver: &'a mut Receiver,
+    mut receiver: Receiver<'a>,
     outputs: &'a mut Outputs,
     call: SessionCall<'_>,
 ) -> Result<Answer<'a>, Refusal> {
@@ -157,7 +137,7 @@ fn on<'a>(
             buffer,
             ends,
         } => {
-            let answers = lend(&mut outputs.octets, places);
+            let answers = lend(&mut outputs.octets, places as usize);
             let count = receiver.call(|q| burst::push_burst(q, now, buffer, ends, answers))?;
             Ok(Answer::Burst(front(answers, count)))
         }
@@ -176,7 +156,7 @@ fn on<'a>(
             Ok(Answer::PollNack(front(numbers, count.unwrap_or(0))))
         }
         SessionCall::NackWire { now, places } => {
-            let octets = lend(&mut outputs.octets, places);
+            let octets = lend(&mut outputs.octets, places as usize);
             let size = receiver.call(|q| wire::nack_wire(q, now, octets))?;
             Ok(Answer::NackWire(front(octets, size)))
         }
@@ -184,7 +164,7 @@ fn on<'a>(
     }
 }
 
-fn look(receiver: &mut Receiver, call: Reading) -> Result<Answer<'_>, Refusal> {
+fn look<'a>(mut receiver: Receiver<'a>, call: Reading) -> Result<Answer<'a>, Refusal> {
     match call {
         Reading::TimeoutReceive { now } => {
             let timeout = receiver.call(|q| reading::timeout_receive(q, now))?;
@@ -202,7 +182,10 @@ fn look(receiver: &mut Receiver, call: Reading) -> Result<Answer<'_>, Refusal> {
             let highest = receiver.call(|q| reading::highest_sequence_number_received(q))?;
             Ok(Answer::Highest(highest))
         }
-        Reading::State => Ok(Answer::State(receiver)),
+        Reading::State => {
+            let Receiver { session, storage } = receiver;
+            Ok(Answer::State(State { session, storage }))
+        }
     }
 }
 
@@ -230,11 +213,12 @@ fn lines<W: Write>(
     out: &mut W,
 ) -> io::Result<()> {
     for _ in 0..u64::MAX {
-        if !input::next_line(input, out, &mut read.line)? {
-            break;
-        }
+        let more = input::next_line(input, out, &mut read.line)?;
         if let Some(answer) = replay.answer(&read.line, &mut read.lent)? {
             answer.write(out)?;
+        }
+        if !more {
+            break;
         }
     }
     out.flush()
@@ -244,6 +228,6 @@ pub(crate) fn run(alloc: Global, stdin: Stdin, stdout: Stdout) -> io::Result<()>
     let mut replay = Replay::new(alloc)?;
     let mut read = Input::new(alloc)?;
     let mut input = BufReader::with_capacity(alloc, BLOCK, stdin)?;
-    let mut out = BufWriter::with_capacity(alloc, BLOCK, stdout)?;
+    let mut out = BufWriter::with_capacity(alloc, BLOCK, BestEffort::new(stdout))?;
     lines(&mut replay, &mut read, &mut input, &mut out)
 }

@@ -1,6 +1,6 @@
 // The lines of `state` (docs/TRACE.md, "state").
 use crate::answer::{OrDash, front, hex};
-use crate::receiver::Receiver;
+use crate::receiver::Storage;
 use entries::{ENTRY_WORDS, Entry, PAYLOAD_BYTES};
 use lost_nacked::{REMEMBERED_WORDS, Remembered};
 use model::{Counters, Queue, Received, Session};
@@ -95,9 +95,16 @@ fn remembered<W: Write>(out: &mut W, r: Remembered) -> io::Result<()> {
     writeln!(out, "remembered {} {}", r.number.0, r.nacked_at)
 }
 
-impl Receiver {
+// A session, and the storage in which its lists are.
+#[derive(Clone, Copy)]
+pub struct State<'a> {
+    pub session: &'a Session,
+    pub storage: &'a Storage,
+}
+
+impl State<'_> {
     fn entry_lines<W: Write>(&self, out: &mut W) -> io::Result<()> {
-        let storage = &self.storage;
+        let storage = self.storage;
         let places = storage.payloads.chunks_exact(PAYLOAD_BYTES);
         let records = storage.entries.chunks_exact(ENTRY_WORDS).zip(places);
         for (words, place) in records.take(self.session.entries) {
@@ -125,8 +132,8 @@ impl Receiver {
     }
 
     // What `state` is answered.
-    pub(crate) fn write_state<W: Write>(&self, out: &mut W) -> io::Result<()> {
-        summary(out, &self.session)?;
+    pub(crate) fn write<W: Write>(self, out: &mut W) -> io::Result<()> {
+        summary(out, self.session)?;
         self.entry_lines(out)?;
         self.gap_lines(out)?;
         self.remembered_lines(out)

@@ -3,6 +3,7 @@
 // them) and those half a cycle away. A line for each: width, reference, number, extended number.
 #![tactic(auto)]
 
+use best_effort::BestEffort;
 use rtp::{ExtendedRtpTimestamp, ExtendedSequenceNumber, RtpTimestamp, SequenceNumber};
 use std::io::{self, BufWriter, Write};
 
@@ -79,7 +80,7 @@ fn cycles<N: Cut>(out: &mut impl Write) -> io::Result<()> {
 }
 
 fn main(rt: HostRuntime) -> io::Result<()> {
-    let mut out = BufWriter::new(rt.alloc(), rt.stdout())?;
+    let mut out = BufWriter::new(rt.alloc(), BestEffort::new(rt.stdout()))?;
     cycles::<SequenceNumber>(&mut out)?;
     cycles::<RtpTimestamp>(&mut out)?;
     out.flush()

@@ -2,6 +2,7 @@
 // First 02's order of fields in each mode, then a version 1 line, then a line for each way to be refused.
 #![tactic(auto)]
 
+use best_effort::BestEffort;
 use refusals::Refusal;
 use std::io::{self, BufWriter, Write};
 
@@ -43,7 +44,7 @@ fn again(line: &str) -> Result<[u8; 145], Refusal> {
 }
 
 fn main(rt: HostRuntime) -> io::Result<()> {
-    let mut out = BufWriter::new(rt.alloc(), rt.stdout())?;
+    let mut out = BufWriter::new(rt.alloc(), BestEffort::new(rt.stdout()))?;
     for line in LINES {
         match again(line) {
             Ok(row) => out.write_all(&row)?,
