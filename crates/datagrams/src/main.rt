@@ -9,7 +9,7 @@ use memchr::memchr;
 use refusals::Refusal;
 use rtp::{SequenceNumber, Ssrc};
 use rtp_packet::RtpPacket;
-use std::alloc::{AllocError, Global};
+use std::alloc::Global;
 use std::fmt::{self, Display, Formatter};
 use std::io::{self, BufRead, BufReader, BufWriter, Read, Write};
 
@@ -126,15 +126,8 @@ fn answer(alloc: Global, line: &[u8], out: &mut impl Write) -> anyhow::Result<()
     Ok(())
 }
 
-// Puts a part of a line behind what is there of it, as far as `LONGEST` goes.
-fn gather(line: &mut Vec<u8>, part: &[u8]) -> Result<(), AllocError> {
-    let room = LONGEST.saturating_sub(line.len());
-    let size = part.len().min(room);
-    line.extend_from_slice(&part[..size])
-}
-
-// The next line, without its line feed; false at the end of the input, for which a read that fails is taken: what has no line feed is no
-// line. Answers are written before more input is waited for, for a program at the other end of a pipe.
+// The next line without its line feed, of which `LONGEST` bytes are kept; false at the end of the input, for which a read that fails is taken:
+// what has no line feed is no line. Answers are written before more input is waited for, for a program at the other end of a pipe.
 fn next_line<R: Read>(
     input: &mut BufReader<R>,
     out: &mut impl Write,
@@ -151,7 +144,8 @@ fn next_line<R: Read>(
         }
         let end = memchr(b'\n', block);
         let size = end.unwrap_or(block.len());
-        gather(line, &block[..size])?;
+        let room = LONGEST.saturating_sub(line.len());
+        line.extend_from_slice(&block[..size.min(room)])?;
         if end.is_some() {
             input.consume(size + 1);
             return Ok(true);
