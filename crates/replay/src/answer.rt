@@ -1,67 +1,64 @@
 // Answers as docs/TRACE.md has them ("Calls").
+use crate::digits;
+use crate::digits::{AT_ONCE, FIELDS};
 use crate::state::State;
 use config::Settings;
+use entries::PAYLOAD_BYTES;
 use poll::HandedOut;
 use push::Media;
 use refusals::Refusal;
 use rtp::ExtendedSequenceNumber;
 use session::rtx::Fate;
 use stats::RtpInboundRtxStats;
-use std::fmt::Display;
+use std::io;
 use std::io::Write;
-use std::{fmt, io};
 
-// A value, or a dash where it is missing.
-#[derive(Clone, Copy)]
-pub struct OrDash(pub Option<u64>);
+// Fields of numbers, with the blank before each.
+pub(crate) fn fields<W: Write, N: Copy + Into<u64>>(out: &mut W, numbers: &[N]) -> io::Result<()> {
+    let mut text = [0u8; FIELDS];
+    for some in numbers.chunks(AT_ONCE) {
+        out.write_all(digits::fields(&mut text, some))?;
+    }
+    Ok(())
+}
 
-impl Display for OrDash {
-    fn fmt<W: fmt::Write>(&self, f: &mut fmt::Formatter<W>) -> fmt::Result {
-        match self.0 {
-            Some(n) => n.fmt(f),
-            None => f.write_str("-"),
-        }
+// A field of a number, or of a dash where it is missing.
+pub(crate) fn or_dash<W: Write>(out: &mut W, n: Option<u64>) -> io::Result<()> {
+    match n {
+        Some(n) => fields(out, &[n]),
+        None => out.write_all(b" -"),
     }
 }
 
-// How many bytes of HEX are made at once.
-const CHUNK: usize = 256;
+// The digits of the longest payload: as many are made at once.
+pub const PAYLOAD_DIGITS: usize = 2 * PAYLOAD_BYTES;
 
-// A field of HEX, with the blank before it.
-pub(crate) fn hex<W: Write>(out: &mut W, bytes: &[u8]) -> io::Result<()> {
+// A field of HEX, with the blank before it. Its digits are made in `text`, which is lent, so that it is filled with zeros once for many fields.
+pub(crate) fn hex<W: Write>(
+    out: &mut W,
+    bytes: &[u8],
+    text: &mut [u8; PAYLOAD_DIGITS],
+) -> io::Result<()> {
     if bytes.is_empty() {
         return out.write_all(b" -");
     }
     out.write_all(b" ")?;
-    let mut digits = [0u8; 2 * CHUNK];
-    for chunk in bytes.chunks(CHUNK) {
-        let made = &mut digits[..2 * chunk.len()];
-        hex::encode_to_slice(chunk, made).unwrap();
+    for chunk in bytes.chunks(PAYLOAD_BYTES) {
+        let made = &mut text[..2 * chunk.len()];
+        digits::hex(chunk, made);
         out.write_all(made)?;
     }
     Ok(())
 }
 
-// Numbers, with the blank before each.
-#[derive(Drop)]
-struct Numbers<'a, N>(&'a [N]);
-
-impl<N: Display> Display for Numbers<'_, N> {
-    fn fmt<W: fmt::Write>(&self, f: &mut fmt::Formatter<W>) -> fmt::Result {
-        for n in self.0 {
-            write!(f, " {n}")?;
-        }
-        Ok(())
-    }
-}
-
 // A word and numbers, or `nothing` where there are none.
-fn list<W: Write, N: Display + Drop>(out: &mut W, word: &str, numbers: &[N]) -> io::Result<()> {
+fn list<W: Write, N: Copy + Into<u64>>(out: &mut W, word: &str, numbers: &[N]) -> io::Result<()> {
     if numbers.is_empty() {
         return nothing(out);
     }
-    let numbers = Numbers(numbers);
-    writeln!(out, "{word}{numbers}")
+    out.write_all(word.as_bytes())?;
+    fields(out, numbers)?;
+    out.write_all(b"\n")
 }
 
 // A word and HEX, or `nothing` where there are no bytes.
@@ -70,7 +67,7 @@ fn word_and_hex<W: Write>(out: &mut W, word: &str, bytes: &[u8]) -> io::Result<(
         return nothing(out);
     }
     out.write_all(word.as_bytes())?;
-    hex(out, bytes)?;
+    hex(out, bytes, &mut [0; PAYLOAD_DIGITS])?;
     out.write_all(b"\n")
 }
 
@@ -102,21 +99,19 @@ pub(crate) fn front<T>(output: &[T], count: usize) -> &[T] {
 fn packet<W: Write>(out: &mut W, p: HandedOut, octets: &[u8]) -> io::Result<()> {
     let (pt, number, timestamp, ssrc) = (p.pt, p.sequence_number.0, p.timestamp.0, p.ssrc.0);
     let marker = u8::from(p.marker);
-    let arrival = OrDash(p.received_at);
-    let delay = p.delay;
-    write!(
-        out,
-        "packet {pt} {number} {timestamp} {ssrc} {marker} {arrival} {delay}"
-    )?;
-    hex(out, front(octets, p.size))?;
+    write!(out, "packet {pt} {number} {timestamp} {ssrc} {marker}")?;
+    or_dash(out, p.received_at)?;
+    fields(out, &[p.delay])?;
+    hex(out, front(octets, p.size), &mut [0; PAYLOAD_DIGITS])?;
     out.write_all(b"\n")
 }
 
 fn figures<W: Write>(out: &mut W, s: RtpInboundRtxStats) -> io::Result<()> {
     let (in_time, too_late) = (s.packets_received_in_time, s.packets_received_too_late);
     let (redundant, bytes) = (s.packets_received_redundant, s.bytes_received);
-    let rtt = OrDash(s.rtt);
-    writeln!(out, "rtx {in_time} {too_late} {redundant} {bytes} {rtt}")
+    write!(out, "rtx {in_time} {too_late} {redundant} {bytes}")?;
+    or_dash(out, s.rtt)?;
+    out.write_all(b"\n")
 }
 
 fn settings<W: Write>(out: &mut W, s: Settings) -> io::Result<()> {

@@ -11,6 +11,7 @@
 
 mod answer;
 mod call;
+mod digits;
 mod field;
 mod input;
 mod opening;

@@ -1,5 +1,5 @@
 // The lines of `state` (docs/TRACE.md, "state").
-use crate::answer::{OrDash, front, hex};
+use crate::answer::{PAYLOAD_DIGITS, fields, front, hex, or_dash};
 use crate::receiver::Storage;
 use entries::{ENTRY_WORDS, Entry, PAYLOAD_BYTES};
 use lost_nacked::{REMEMBERED_WORDS, Remembered};
@@ -64,8 +64,7 @@ fn summary<W: Write>(out: &mut W, s: &Session) -> io::Result<()> {
     let q = &s.queue;
     figures(out, q)?;
     last_received(out, q.last)?;
-    let returned = OrDash(q.returned.map(|n| n.0));
-    write!(out, " {returned}")?;
+    or_dash(out, q.returned.map(|n| n.0))?;
     if q.config.senders.has_rtx {
         repairs(out, q.rtx)?;
     } else {
@@ -74,25 +73,40 @@ fn summary<W: Write>(out: &mut W, s: &Session) -> io::Result<()> {
     writeln!(out, " {} {} {}", s.entries, s.gaps, s.remembered)
 }
 
-fn entry<W: Write>(out: &mut W, e: Entry, place: &[u8]) -> io::Result<()> {
-    let (number, timestamp, marker) = (e.number.0, e.timestamp.0, u8::from(e.marker));
-    let arrival = OrDash(e.arrival);
-    write!(out, "entry {number} {timestamp} {arrival} {marker}")?;
-    hex(out, front(place, e.size))?;
+fn entry<W: Write>(
+    out: &mut W,
+    e: Entry,
+    place: &[u8],
+    text: &mut [u8; PAYLOAD_DIGITS],
+) -> io::Result<()> {
+    let (number, timestamp) = (e.number.0, e.timestamp.0);
+    out.write_all(b"entry")?;
+    match e.arrival {
+        Some(arrival) => fields(out, &[number, timestamp, arrival])?,
+        None => {
+            fields(out, &[number, timestamp])?;
+            out.write_all(b" -")?;
+        }
+    }
+    out.write_all(if e.marker { b" 1" } else { b" 0" })?;
+    hex(out, front(place, e.size), text)?;
     out.write_all(b"\n")
 }
 
 fn gap<W: Write>(out: &mut W, g: Gap) -> io::Result<()> {
-    let nacked = OrDash((g.nacks != 0).then_some(g.nacked_at));
-    writeln!(
-        out,
-        "gap {} {} {nacked} {}",
-        g.number.0, g.detected, g.nacks
-    )
+    out.write_all(b"gap")?;
+    if g.nacks == 0 {
+        fields(out, &[g.number.0, g.detected])?;
+        return out.write_all(b" - 0\n");
+    }
+    fields(out, &[g.number.0, g.detected, g.nacked_at, g.nacks])?;
+    out.write_all(b"\n")
 }
 
 fn remembered<W: Write>(out: &mut W, r: Remembered) -> io::Result<()> {
-    writeln!(out, "remembered {} {}", r.number.0, r.nacked_at)
+    out.write_all(b"remembered")?;
+    fields(out, &[r.number.0, r.nacked_at])?;
+    out.write_all(b"\n")
 }
 
 // A session, and the storage in which its lists are.
@@ -107,8 +121,9 @@ impl State<'_> {
         let storage = self.storage;
         let places = storage.payloads.chunks_exact(PAYLOAD_BYTES);
         let records = storage.entries.chunks_exact(ENTRY_WORDS).zip(places);
+        let mut text = [0u8; PAYLOAD_DIGITS];
         for (words, place) in records.take(self.session.entries) {
-            entry(out, entries::read(words, 0), place)?;
+            entry(out, entries::read(words, 0), place, &mut text)?;
         }
         Ok(())
     }

@@ -1,0 +1,2 @@
+mod LookUps
+mod Parts
