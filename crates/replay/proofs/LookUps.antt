@@ -1,4 +1,4 @@
--- Sixteen look-ups at once: what a vector of bytes is read at, and its digits side by side.
+-- Sixteen look-ups at once: where the table is read for a vector of bytes, and their digits side by side.
 use Rattle.std.proofs.Common.{◌≡◌, ℕ, suc, ◌+◌, ◌*◌, ◌/◌, ◌%◌, ◌<◌, ◌≤◌, List, [], ◌∷◌, ◌++◌, map, length, slice_index, get_or, refl, sym, subst, ap, ◌∙◌, arith, w8, Fits}
 use Rattle.std.proofs.lemmas.List.{ext_get_or, length-map}
 use Rattle.std.proofs.lemmas.List.FromFn.{get_or-map-range_with_len, length-map-range_with_len}

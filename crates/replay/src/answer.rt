@@ -33,7 +33,7 @@ pub(crate) fn or_dash<W: Write>(out: &mut W, n: Option<u64>) -> io::Result<()> {
 // The digits of the longest payload: as many are made at once.
 pub const PAYLOAD_DIGITS: usize = 2 * PAYLOAD_BYTES;
 
-// A field of HEX, with the blank before it. Its digits are made in `text`, which is lent, so that it is filled with zeros once for many fields.
+// A field of HEX, with the blank before it. Its digits are made in `text`, which is lent, so that all entries of `state` share one.
 pub(crate) fn hex<W: Write>(
     out: &mut W,
     bytes: &[u8],

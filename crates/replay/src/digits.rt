@@ -1,5 +1,5 @@
-// The digits of long answers. The library's formatter takes longer for a number than its digits do, and `hex` looks the digits of bytes up one
-// after another, where sixteen look-ups take as long as one.
+// The digits of answers that may be long. The library's formatter takes longer for a number than its digits do, and the crate `hex` looks up one
+// digit after another, where sixteen look-ups take as long as one.
 ghost use Rattle.std.specs.Prelude.{◌≡◌, ◌+◌, ◌*◌, ◌/◌, ◌%◌, ◌≤◌, ◌∷◌, ◌++◌, ℕ, drop, length, map, slice_index};
 ghost use Rattle.std.specs.Fmt.{decimal};
 ghost use Rattle.hex.specs.Hex.{encode_lower, lower_digits};
@@ -15,7 +15,7 @@ pub const AT_ONCE: usize = 4;
 // The bytes of as many.
 pub const FIELDS: usize = AT_ONCE * FIELD;
 
-// Puts a number, with the blank before it, right before `end`, and answers where it begins.
+// Puts a number, with the blank before it, right before `end`, and answers where the blank is.
 fn put_before(text: &mut [u8; FIELDS], end: usize, n: u64) -> usize
     requires { (21 ≤ end) × (end ≤ 84) }
     ensures text { drop result text.new ≡ 32 ∷ decimal n ++ drop end text.old }
@@ -65,7 +65,7 @@ fn both_digits(bytes: u8x16) -> u8x32
     )
 }
 
-// HEX. After the last sixteen bytes come less than sixteen, which are filled up with zeros, whose digits are left out.
+// HEX. Fewer than sixteen bytes that are left at the end are filled up with zeros, whose digits are left out.
 pub(crate) fn hex(bytes: &[u8], text: &mut [u8])
     requires { length text.old ≡ 2 * length bytes.now }
     ensures { text.new ≡ encode_lower bytes.now }

@@ -1,7 +1,7 @@
 // Reads a trace from standard input, makes each call on the queue in order, and writes the answers to standard output (docs/TRACE.md).
 //
 // A line (input) is split into fields (field) and read into a call (call, opening), the call is made on the session that is open (receiver,
-// run), its answer is a value and is written (answer, state). Few functions here have a contract on what they answer: they are proved safe and
+// run), its answer is a value and is written (answer, state, digits). Few functions here have a contract on what they answer: they are proved safe and
 // ending, and judged by running them against the Rust. A further call is a variant and an arm in call, an arm in run, and a variant and an arm in
 // answer.
 //
